@@ -1,0 +1,27 @@
+-- Document 01's table 'What comes back': the number of each answer, and the values that come with it. Every promise about an answer goes through these.
+-- Assumes nothing.
+use Prim.Native.Nat.{ℕ}
+use Rattle.answers.specs.declared.Name.{Name}
+use Rattle.answers.specs.declared.Name.the-variants.{Length, Frame, Check, Kind, Field, TooMany, Count, Loop, Request, Last}
+use Rattle.answers.specs.declared.Refusal.{Refusal}
+use Rattle.answers.specs.declared.Verdict.{Verdict}
+use Rattle.answers.specs.declared.Verdict.the-variants.{Pass, Refuse}
+use Rattle.answers.specs.declared.Answer.{Answer}
+
+-- the number of each refusal
+abbrev pub numberOf : Name → ℕ
+numberOf Length = 1
+numberOf Frame = 2
+numberOf Check = 3
+numberOf Kind = 4
+numberOf Field = 5
+numberOf TooMany = 6
+numberOf Count = 7
+numberOf Loop = 8
+numberOf Request = 9
+numberOf Last = 10
+
+-- OK is number 0 with place 0; a refusal is its number and its place
+abbrev pub answered : Verdict → Answer
+answered Pass = record { number = 0; place = 0 }
+answered (Refuse r) = record { number = numberOf (r .name); place = r .place }

@@ -1,0 +1,25 @@
+-- The contracts of this crate's public functions leave one possible answer: any two that they allow are equal.
+-- Assumes nothing.
+use mathlib.Core.Path.{_≡_}
+use mathlib.Core.Bool.{Bool}
+use mathlib.Core.List.{List}
+use Prim.Native.Nat.{ℕ, _+_}
+use lib.ListN.{length, getD, drop}
+use Rattle.theory.specs.Laws.Exact.{exact}
+use Rattle.frames.specs.Frame.{bytesOf, framed, checked}
+use Rattle.frames.specs.Laws.Lines.{span}
+
+pub line-end-exact : (text : List ℕ) (at r r′ : ℕ) → r ≡ at + span (drop at text) → r′ ≡ at + span (drop at text) → r ≡ r′
+line-end-exact text at r r′ = exact
+
+pub is-framed-exact : (line : List ℕ) (r r′ : Bool) → r ≡ framed line → r′ ≡ framed line → r ≡ r′
+is-framed-exact line r r′ = exact
+
+pub is-checked-exact : (line : List ℕ) (r r′ : Bool) → r ≡ checked (bytesOf line) → r′ ≡ checked (bytesOf line) → r ≡ r′
+is-checked-exact line r r′ = exact
+
+pub byte-at-exact : (line : List ℕ) (i r r′ : ℕ) → r ≡ getD (bytesOf line) i 0 → r′ ≡ getD (bytesOf line) i 0 → r ≡ r′
+byte-at-exact line i r r′ = exact
+
+pub count-exact : (line : List ℕ) (r r′ : ℕ) → r ≡ length (bytesOf line) → r′ ≡ length (bytesOf line) → r ≡ r′
+count-exact line r r′ = exact

@@ -1,0 +1,28 @@
+-- The lines of a text. Each line is ended by byte 0A, which is no part of it.
+-- Assumes nothing.
+use mathlib.Core.Bool.{cond}
+use mathlib.Core.List.{List, [], _∷_}
+use Prim.Native.Nat.{ℕ}
+use lib.Dec.{eqb}
+
+-- byte 0A
+abbrev pub LINE-END : ℕ
+LINE-END = 10
+
+pub data Lines : Type 0 where
+  -- nothing is left
+  none : Lines
+  -- a last line with no final 0A
+  endless : List ℕ → Lines
+  -- a line, and the lines after its 0A
+  line : List ℕ → Lines → Lines
+
+-- a character in front of the first line
+abbrev pub onto : ℕ → Lines → Lines
+onto b none = endless (b ∷ [])
+onto b (endless l) = endless (b ∷ l)
+onto b (line l ls) = line (b ∷ l) ls
+
+abbrev pub lines : List ℕ → Lines
+lines [] = none
+lines (b ∷ text) = cond (eqb b LINE-END) (line [] (lines text)) (onto b (lines text))

@@ -1,0 +1,35 @@
+-- Some, every, how many and the first of the numbers below n, as tests: a test that passes is the equation `t ≡ true`. And what 'exactly one' says.
+-- Assumes nothing.
+use mathlib.Core.Path.{_≡_}
+use mathlib.Core.Bool.{Bool, true, false, cond, _&&_, _||_}
+use Prim.Native.Nat.{ℕ, zero, suc, _+_}
+use lib.Dec.{ltb}
+
+-- some number below n passes
+unfoldable pub anyBelow : ℕ → (ℕ → Bool) → Bool
+anyBelow zero f = false
+anyBelow (suc n) f = f n || anyBelow n f
+
+-- every number below n passes
+unfoldable pub allBelow : ℕ → (ℕ → Bool) → Bool
+allBelow zero f = true
+allBelow (suc n) f = f n && allBelow n f
+
+-- 1 for a test that passes, else 0
+abbrev pub one : Bool → ℕ
+one true = 1
+one false = 0
+
+-- how many numbers below n pass
+unfoldable pub countBelow : ℕ → (ℕ → Bool) → ℕ
+countBelow zero f = 0
+countBelow (suc n) f = one (f n) + countBelow n f
+
+-- the first number below n that passes, and n where none does
+unfoldable pub firstBelow : ℕ → (ℕ → Bool) → ℕ
+firstBelow zero f = zero
+firstBelow (suc n) f = let k = firstBelow n f in cond (ltb k n) k (cond (f n) n (suc n))
+
+-- exactly one a has P
+abbrev pub ExactlyOne : {A : Type 0} → (A → Type 0) → Type 0
+ExactlyOne {A} P = (a : A) × P a × ((b : A) → P b → b ≡ a)

@@ -1,0 +1,165 @@
+-- The loop test is exact and its place is one: a sheet has no loop, or it has one at exactly one place, which the test finds.
+-- Assumes nothing.
+use mathlib.Core.Path.{_≡_, refl, sym, ap, ap₂, fun-ext, subst₂}
+use mathlib.Core.Logic.{_⊎_, inl, inr, ⊎-elim, by-cases, _↔_}
+use mathlib.Core.Bool.{Bool, true, false, cond, _&&_, _||_}
+use Prim.Native.Nat.{ℕ, zero, suc, _+_, _*_, _/_, _%_, _≤_, _<_}
+use native.Mathlib.Decide.{decLe}
+use native.Mathlib.Omega.{arith}
+use lib.Dec.{ltb}
+use borrow.Author.Tests.{lt-ltb, le-ltb}
+use Rattle.theory.specs.Numbers.{EVENTS}
+use Rattle.theory.specs.Below.{countBelow, firstBelow}
+use Rattle.theory.specs.Events.{conf}
+use Rattle.theory.specs.Sheet.{Sheet}
+use Rattle.theory.specs.Graph.{counts, node, drawn, minus, edge, OnCycle, NoLoop, pairPlace, LoopAt}
+use Rattle.theory.specs.LoopTest.{through, reach, onCycle, PAIRS, loopPlace, levelOf}
+use Rattle.theory.specs.Laws.Tests.{and-left, and-right, and-both, test, not-both}
+use Rattle.theory.specs.Laws.Below.{below-cases}
+use Rattle.theory.specs.Laws.Reach.{through-sound, through-complete}
+use Rattle.theory.specs.Laws.Graph.{HeadsBelow, drawn-from, drawn-to, edge-to}
+
+-- ---- the first of the numbers below n
+
+-- there is none
+pub first-none : (n : ℕ) (f : ℕ → Bool) → ((j : ℕ) → j < n → f j ≡ false) → firstBelow n f ≡ n
+unfolding firstBelow
+first-none zero f h = refl
+first-none (suc n) f h =
+    let e : firstBelow n f ≡ n = first-none n f (λ j l. h j (omega arith)) in
+    rw (e, le-ltb n n (omega arith), h n (omega arith)) refl
+
+-- it is k: k passes and none before it does
+pub first-is : (n : ℕ) (f : ℕ → Bool) (k : ℕ) → k < n → f k ≡ true → ((j : ℕ) → j < k → f j ≡ false) → firstBelow n f ≡ k
+unfolding firstBelow
+first-is zero f k l p h = absurd (omega arith)
+first-is (suc n) f k l p h =
+    ⊎-elim
+    (λ (e : k ≡ n).
+    let g : firstBelow n f ≡ n = first-none n f (λ j m. h j (omega arith)) in
+    rw (g, le-ltb n n (omega arith), rw e at p) (sym e))
+    (λ (m : k < n).
+    let g : firstBelow n f ≡ k = first-is n f k m p h in
+    rw (g, lt-ltb k n m) refl)
+    (below-cases l)
+
+-- one of the two
+first-or : (n : ℕ) (f : ℕ → Bool) → ((i : ℕ) → i < n → f i ≡ false) ⊎ ((i : ℕ) × (i < n) × (f i ≡ true) × ((k : ℕ) → k < i → f k ≡ false))
+first-or zero f = inl (λ i l. absurd (omega arith))
+first-or (suc n) f =
+    ⊎-elim
+    (λ (h : (i : ℕ) → i < n → f i ≡ false).
+    ⊎-elim
+    (λ (p : f n ≡ true). inr (n, omega arith, p, h))
+    (λ (q : f n ≡ false). inl (λ i l. ⊎-elim (λ (e : i ≡ n). rw e q) (λ (k : i < n). h i k) (below-cases l)))
+    (test (f n)))
+    (λ (r : (i : ℕ) × (i < n) × (f i ≡ true) × ((k : ℕ) → k < i → f k ≡ false)). inr (r .0, omega arith, r .2, r .3))
+    (first-or n f)
+
+-- ---- a loop is at one place only, and not where there is none
+
+pub loop-not : (sh : Sheet) (k : ℕ) → LoopAt sh k → NoLoop sh → ⊥
+loop-not sh k l nl = nl (l .from) (l .to) (l .cycle)
+
+pub loop-one : (sh : Sheet) (k j : ℕ) → LoopAt sh k → LoopAt sh j → k ≡ j
+loop-one sh k j x y =
+    omega (
+      arith,
+      x .is-pair,
+      y .is-pair,
+      x .is-first (y .from) (y .to) (y .from-event) (y .to-event) (y .cycle),
+      y .is-first (x .from) (x .to) (x .from-event) (x .to-event) (x .cycle),
+    )
+
+-- ---- what the test finds
+
+module _ (sh : Sheet) (hb : HeadsBelow sh) where
+  -- THE THEOREM: the test of a pair is exact
+  pub cycle-exact : (a b : ℕ) → (onCycle sh a b ≡ true) ↔ OnCycle sh a b
+  cycle-exact a b = (
+    (λ h. record { negative = and-left (minus sh a b) (reach sh b a) h; back = through-sound (edge sh) EVENTS b a (and-right (minus sh a b) (reach sh b a) h) }),
+    (λ c. and-both (c .negative) (through-complete (edge sh) EVENTS (edge-to sh hb) (c .back))),
+  )
+
+  abbrev cycleAt : ℕ → Bool
+  cycleAt k = onCycle sh (k / EVENTS) (k % EVENTS)
+
+  none-noloop : ((k : ℕ) → k < PAIRS → cycleAt k ≡ false) → NoLoop sh
+  none-noloop h a b c =
+      let x : a < EVENTS = drawn-from sh hb conf a b (c .negative) in
+      let y : b < EVENTS = drawn-to sh hb conf a b (c .negative) in
+      let k : ℕ = pairPlace a b in
+      let u : a ≡ k / EVENTS = omega arith in
+      let v : b ≡ k % EVENTS = omega arith in
+      not-both (subst₂ (λ (a b : ℕ). onCycle sh a b ≡ true) u v (cycle-exact a b .1 c)) (h k (omega arith))
+
+  first-place : (k : ℕ) → k < PAIRS → cycleAt k ≡ true → ((j : ℕ) → j < k → cycleAt j ≡ false) → LoopAt sh k
+  first-place k l h f =
+      record {
+        from = k / EVENTS;
+        to = k % EVENTS;
+        is-pair = omega arith;
+        from-event = omega arith;
+        to-event = omega arith;
+        cycle = cycle-exact (k / EVENTS) (k % EVENTS) .0 h;
+        is-first = λ a b x y c.
+            let j : ℕ = pairPlace a b in
+            let u : a ≡ j / EVENTS = omega arith in
+            let v : b ≡ j % EVENTS = omega arith in
+            by-cases (decLe k j)
+            (λ (m : k ≤ j). m)
+            (λ (m : ¬ (k ≤ j)). not-both (subst₂ (λ (a b : ℕ). onCycle sh a b ≡ true) u v (cycle-exact a b .1 c)) (f j (omega arith)));
+      }
+
+  -- THE THEOREM: the test finds no loop where there is none, and else finds its place
+  pub loop-or : ((loopPlace sh ≡ PAIRS) × NoLoop sh) ⊎ ((loopPlace sh < PAIRS) × LoopAt sh (loopPlace sh))
+  unfolding loopPlace
+  loop-or =
+      ⊎-elim
+      (λ (h : (k : ℕ) → k < PAIRS → cycleAt k ≡ false). inl (first-none PAIRS cycleAt h, none-noloop h))
+      (λ (r : (k : ℕ) × (k < PAIRS) × (cycleAt k ≡ true) × ((j : ℕ) → j < k → cycleAt j ≡ false)).
+      let e : firstBelow PAIRS cycleAt ≡ r .0 = first-is PAIRS cycleAt (r .0) (r .1) (r .2) (r .3) in
+      inr (omega (arith, e, r .1), rw e (first-place (r .0) (r .1) (r .2) (r .3))))
+      (first-or PAIRS cycleAt)
+
+  -- so the test passes exactly the sheets without a loop
+  pub noloop-says : (loopPlace sh ≡ PAIRS) ↔ NoLoop sh
+  noloop-says = (
+    (λ h. ⊎-elim (λ (x : (loopPlace sh ≡ PAIRS) × NoLoop sh). x .1) (λ (y : (loopPlace sh < PAIRS) × LoopAt sh (loopPlace sh)). absurd (omega arith)) loop-or),
+    (λ nl. ⊎-elim (λ (x : (loopPlace sh ≡ PAIRS) × NoLoop sh). x .0) (λ (y : (loopPlace sh < PAIRS) × LoopAt sh (loopPlace sh)). absurd (loop-not sh (loopPlace sh) (y .1) nl)) loop-or),
+  )
+
+  -- and gives the place of a loop exactly
+  pub loop-says : (k : ℕ) → ((k < PAIRS) × (loopPlace sh ≡ k)) ↔ LoopAt sh k
+  loop-says k = (
+    (λ h.
+        ⊎-elim
+        (λ (x : (loopPlace sh ≡ PAIRS) × NoLoop sh). absurd (omega arith))
+        (λ (y : (loopPlace sh < PAIRS) × LoopAt sh (loopPlace sh)). rw (h .1) at (y .1))
+        loop-or),
+    (λ l.
+        ⊎-elim
+        (λ (x : (loopPlace sh ≡ PAIRS) × NoLoop sh). absurd (loop-not sh k l (x .1)))
+        (λ (y : (loopPlace sh < PAIRS) × LoopAt sh (loopPlace sh)). let e : loopPlace sh ≡ k = loop-one sh (loopPlace sh) k (y .1) l in (omega (arith, y .0), e))
+        loop-or),
+  )
+
+-- ---- the test looks at the triggers alone
+
+module _ (sh sh′ : Sheet) (n : sh .triggerCount ≡ sh′ .triggerCount) (g : sh .trigger ≡ sh′ .trigger) where
+  drawn-same : (from : ℕ → ℕ) → drawn from sh ≡ drawn from sh′
+  unfolding drawn node counts
+  drawn-same from = fun-ext (λ a. fun-ext (λ b. rw (n, g) refl))
+
+  edge-same : edge sh ≡ edge sh′
+  unfolding edge
+  edge-same = fun-ext (λ a. fun-ext (λ b. ap₂ (λ (p m : ℕ → ℕ → Bool). p a b || m a b) (drawn-same (λ e. e)) (drawn-same conf)))
+
+  pub loop-place-same : loopPlace sh ≡ loopPlace sh′
+  unfolding loopPlace
+  loop-place-same =
+      ap₂ (λ (m e : ℕ → ℕ → Bool). firstBelow PAIRS (λ k. m (k / EVENTS) (k % EVENTS) && through e EVENTS (k % EVENTS) (k / EVENTS))) (drawn-same conf) edge-same
+
+  pub level-same : levelOf sh ≡ levelOf sh′
+  unfolding levelOf
+  level-same = fun-ext (λ e. ap (λ (E : ℕ → ℕ → Bool). countBelow EVENTS (λ x. through E EVENTS x e)) edge-same)

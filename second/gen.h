@@ -1,0 +1,87 @@
+/* The parts of the generator. */
+#ifndef GEN_H
+#define GEN_H
+
+#include "form.h"
+
+enum {
+    BOOK_PERIODIC = 160,
+    BOOK_TRIGGERS = 300
+};
+
+/* A small generator of numbers that is the same everywhere. */
+struct dice {
+    uint64_t state;
+};
+
+/* A sheet and a tape in the making; any field may be wrong on purpose. */
+struct book {
+    uint8_t version;
+    uint32_t role_count;
+    uint32_t periodic_count;
+    uint32_t trigger_count;
+    uint32_t end_periodic; /* what the end frame says */
+    uint32_t end_trigger;
+    struct periodic periodic[BOOK_PERIODIC];
+    struct trigger trigger[BOOK_TRIGGERS];
+    struct tape tape;
+};
+
+/* The shapes that a trigger table can be given. */
+enum shape { MIXED, ORDERED, CHAIN, RING, LADDER, TANGLE, SHAPES };
+
+/* dice.c */
+struct dice dice_of(uint64_t seed, const char *kind);
+uint32_t dice_number(struct dice *dice);
+uint32_t below(struct dice *dice, uint32_t count);
+uint32_t between(struct dice *dice, uint32_t least, uint32_t most);
+int chance(struct dice *dice, uint32_t percent);
+
+/* book.c: good rows, tables and tapes */
+unsigned any_event(struct dice *dice, uint32_t role_count);
+void good_periodic(struct dice *dice, struct periodic *row, uint32_t role_count, uint32_t around);
+void good_trigger(struct dice *dice, struct trigger *row, uint32_t role_count);
+struct request good_request(struct dice *dice, uint32_t role_count);
+void make_loop_free(struct dice *dice, struct trigger *trigger, uint32_t count);
+void say_counts(struct book *book);
+void good_tape(struct dice *dice, struct book *book, uint32_t span);
+void good_book(struct dice *dice, struct book *book);
+void dense_book(struct dice *dice, struct book *book);
+void shaped_book(struct dice *dice, struct book *book, enum shape shape);
+
+/* shapes.c */
+void shape_triggers(struct dice *dice, struct book *book, enum shape shape, uint32_t count);
+void loop_book(struct dice *dice, struct book *book, uint32_t length, uint32_t neighbour);
+
+/* pages.c: a book as text */
+void put_header(struct text *out, const struct book *book);
+void put_periodic(struct text *out, const struct periodic *row);
+void put_trigger(struct text *out, const struct trigger *row);
+void put_end(struct text *out, const struct book *book);
+void put_sheet(struct text *out, const struct book *book);
+void put_request(struct text *out, uint32_t instant, const struct request *request);
+void put_last(struct text *out, uint32_t last);
+void put_tape(struct text *out, const struct book *book);
+
+/* damage.c: changes of a text */
+uint32_t line_count(const struct text *text);
+size_t line_start(const struct text *text, uint32_t line);
+void replace(struct text *text, size_t at, size_t drop, const uint8_t *bytes, size_t length);
+void mend_checks(struct text *text);
+void damage(struct dice *dice, struct text *text);
+void damage_bytes(struct dice *dice, struct text *text);
+
+/* edges.c: the edges of each limit */
+uint32_t row_edges(void);
+uint32_t text_edges(void);
+uint32_t tape_edges(void);
+void row_edge(struct dice *dice, struct book *book, uint32_t which);
+void text_edge(struct dice *dice, struct text *text, const struct book *book, uint32_t which);
+void tape_edge(struct dice *dice, struct text *text, const struct book *book, uint32_t which);
+
+/* gensteps.c: step cases */
+void step_case_of(struct dice *dice, struct step_case *to, const struct book *book);
+void spoil_step(struct dice *dice, struct step_case *to, uint32_t which);
+uint32_t step_spoils(void);
+
+#endif
