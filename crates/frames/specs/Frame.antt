@@ -1,6 +1,6 @@
 -- A line's characters as the bytes of a frame: FRAME and CHECK.
 -- Assumes nothing.
-use mathlib.Core.Bool.{Bool, true, false, cond, _&&_}
+use mathlib.Core.Bool.{Bool, true, false, cond}
 use mathlib.Core.List.{List, [], _∷_}
 use Prim.Native.Nat.{ℕ, suc, _+_, _*_, _-_, _%_}
 use lib.Dec.{ltb, leb, eqb}
@@ -25,7 +25,7 @@ abbrev pub firstBad : List ℕ → ℕ
 firstBad [] = 0
 firstBad (c ∷ l) = cond (isDigit c) (suc (firstBad l)) 0
 
--- FRAME is not given: the line is not empty, each character is a digit, and their count is even
+-- FRAME is not given for a line's characters: it is not empty, each is a digit, and their count is even (the final 0A is looked for where the lines are read)
 unfoldable pub framed : List ℕ → Bool
 framed l = cond (eqb (length l) 0) false (cond (eqb (firstBad l) (length l)) (eqb (length l % 2) 0) false)
 

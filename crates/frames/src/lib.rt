@@ -67,7 +67,7 @@ fn first_bad(line: &[u8]) -> usize
     i
 }
 
-// FRAME is not given.
+// FRAME is not given for the line's characters.
 pub fn is_framed(line: &[u8]) -> bool
     ensures { λ r. ⌜ r ≡ framed (now (line .entry)) ⌝ }
 {

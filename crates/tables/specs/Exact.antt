@@ -1,9 +1,11 @@
 -- The contracts of this crate's public functions leave one possible answer: any two that they allow are equal.
 -- Assumes nothing.
 use mathlib.Core.Path.{_≡_, sym, _∙_}
-use mathlib.Core.Bool.{Bool}
+use mathlib.Core.Bool.{Bool, _&&_, _||_}
 use mathlib.Core.List.{List}
 use Prim.Native.Nat.{ℕ, _+_, _*_}
+use lib.ListN.{length}
+use lib.Seq.{paste}
 use Rattle.theory.specs.Sheet.{Periodic, ofRoles, periodicFits, triggerFits}
 use Rattle.theory.specs.Laws.Exact.{exact}
 use Rattle.tables.specs.declared.Sizes.{Sizes}
@@ -39,3 +41,12 @@ periodic-fits-exact w roles r r′ = exact
 
 pub trigger-fits-exact : (table : List ℕ) (i roles : ℕ) (r r′ : Bool) → r ≡ triggerFits roles (triggerAt table i) → r′ ≡ triggerFits roles (triggerAt table i) → r ≡ r′
 trigger-fits-exact table i roles r r′ = exact
+
+pub both-exact : (a b r r′ : Bool) → r ≡ (a && b) → r′ ≡ (a && b) → r ≡ r′
+both-exact a b r r′ = exact
+
+pub either-exact : (a b r r′ : Bool) → r ≡ (a || b) → r′ ≡ (a || b) → r ≡ r′
+either-exact a b r r′ = exact
+
+pub copy-in-exact : (table row : List ℕ) (at : ℕ) (t t′ : List ℕ) → t ≡ paste table at row (length row) → t′ ≡ paste table at row (length row) → t ≡ t′
+copy-in-exact table row at t t′ = exact

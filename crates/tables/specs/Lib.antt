@@ -4,4 +4,5 @@ pub mod Rows
 pub mod Buffers
 pub mod Agreed
 pub mod Sample
+pub mod Laws
 pub mod Exact

@@ -2,6 +2,8 @@ ghost use mathlib.Core.Path.{_≡_};
 ghost use mathlib.Core.Bool.{_&&_, _||_};
 ghost use Prim.Native.Nat.{_+_, _*_, _<_, _≤_};
 ghost use lib.Dec.{leb};
+ghost use lib.ListN.{length};
+ghost use lib.Seq.{paste};
 ghost use Rattle.theory.specs.Below.{allBelow};
 ghost use Rattle.theory.specs.Sheet.{ofRoles, endFits, periodicFits, triggerFits};
 ghost use Rattle.tables.specs.Agreed.{sizes};
@@ -115,7 +117,8 @@ pub fn trigger_byte(table: &[u8], i: u16, k: u8) -> u8
     byte(table, 13 * row_index(i) + index(k))
 }
 
-fn both(a: bool, b: bool) -> bool
+// Both tests pass.
+pub fn both(a: bool, b: bool) -> bool
     ensures { λ r. ⌜ r ≡ (a && b) ⌝ }
 {
     if a {
@@ -124,7 +127,8 @@ fn both(a: bool, b: bool) -> bool
     false
 }
 
-fn either(a: bool, b: bool) -> bool
+// One of two tests passes.
+pub fn either(a: bool, b: bool) -> bool
     ensures { λ r. ⌜ r ≡ (a || b) ⌝ }
 {
     if a {
@@ -216,4 +220,16 @@ pub fn trigger_fits(table: &[u8], i: u16, roles: u8) -> bool
     ensures { λ r. ⌜ r ≡ triggerFits roles (triggerAt (now (table .entry)) i) ⌝ }
 {
     fits_from(table, 13 * row_index(i), roles)
+}
+
+// The row's bytes over the table's from `at` on. (For the reader alone, which has shown that they fit.)
+pub fn copy_in(table: &mut [u8], at: usize, row: &[u8])
+    requires { ⌜ at + length (now row) ≤ length (now table) ⌝ }
+    ensures { λ _. ⌜ now (table .exit) ≡ paste (now (table .entry)) at (now (row .entry)) (length (now (row .entry))) ⌝ }
+{
+    let mut j: usize = 0;
+    while j < row.len() {
+        table[at + j] = row[j];
+        j += 1;
+    }
 }

@@ -1,0 +1,82 @@
+-- `loops::first_cycle` meets its contract. The invariants: no pair before the one at hand is a − edge on a cycle, in the inner loop by from and to, in the outer by from.
+-- Assumes nothing.
+use mathlib.Core.Path.{_≡_}
+use mathlib.Core.Bool.{false}
+use Prim.Native.Nat.{ℕ, _+_, _-_, _*_, _≤_, _<_}
+use Rattle.loops.specs.Rows.{edgesOf, cycleAt}
+use Rattle.loops.specs.Laws.Search.{pairs-next, first-pair, no-pair}
+use borrow.Author.Needs.{needs}
+use native.Mathlib.Omega.{arith}
+use Rattle.loops.proofs.first_cycle.Statement.{statement}
+use Rattle.loops.proofs.first_cycle.Tie as tie
+
+abbrev Inv-loop : tie.InvT-loop
+Inv-loop minus reach from to₀ to = (from < 128) × (to ≤ 128) × ((k : ℕ) → k < 128 * from + to → cycleAt (edgesOf minus) (edgesOf reach) k ≡ false)
+
+abbrev μ-loop : tie.MeasureT-loop
+μ-loop minus reach from to₀ to = 128 - to
+
+abbrev Inv-search : tie.InvT-search
+Inv-search minus reach from₀ from = (from ≤ 128) × ((k : ℕ) → k < 128 * from → cycleAt (edgesOf minus) (edgesOf reach) k ≡ false)
+
+abbrev μ-search : tie.MeasureT-search
+μ-search minus reach from₀ from = 128 - from
+
+search-holds : tie.Need-search-holds Inv-loop μ-loop Inv-search μ-search
+search-holds c = (search needs, λ k l. absurd (omega arith))
+
+loop-holds : tie.Need-loop-holds Inv-loop μ-loop Inv-search μ-search
+loop-holds c = (search needs, search needs, λ k l. c .before .search .inv .1 k (omega arith))
+
+on-cycle-requires : tie.Need-on-cycle-requires Inv-loop μ-loop Inv-search μ-search
+on-cycle-requires c κs = search needs
+
+add-to : tie.Need-add-to Inv-loop μ-loop Inv-search μ-search
+add-to c = search needs
+
+loop-less : tie.Need-loop-less Inv-loop μ-loop Inv-search μ-search
+loop-less c = search needs
+
+loop-again : tie.Need-loop-again Inv-loop μ-loop Inv-search μ-search
+loop-again c =
+    let d = c .before .before .before in
+    let s = d .before .before in
+    (search needs, search needs, pairs-next (edgesOf _) (edgesOf _) (s .search .from) (d .loop .to) (search needs) (search needs) _ (c .before .on-cycle .ensures) (d .loop .inv .2) (c .if2 .left))
+
+add-from : tie.Need-add-from Inv-loop μ-loop Inv-search μ-search
+add-from c = search needs
+
+search-less : tie.Need-search-less Inv-loop μ-loop Inv-search μ-search
+search-less c = search needs
+
+search-again : tie.Need-search-again Inv-loop μ-loop Inv-search μ-search
+search-again c = (search needs, λ k l. c .before .loop .inv .2 k (omega arith))
+
+returns : tie.Need-returns Inv-loop μ-loop Inv-search μ-search
+returns c = no-pair (edgesOf _) (edgesOf _) (λ k l. c .before .search .inv .1 k (omega arith))
+
+returns-2 : tie.Need-returns-2 Inv-loop μ-loop Inv-search μ-search
+returns-2 c =
+    let d = c .before .before .before in
+    let s = d .before .before in
+    first-pair (edgesOf _) (edgesOf _) (s .search .from) (d .loop .to) (search needs) (search needs) _ (c .before .on-cycle .ensures) (d .loop .inv .2) (c .if2 .taken)
+
+pub first-cycle-spec : {M : Type 1} → statement M
+first-cycle-spec =
+    tie.close
+    (tie.spec
+    Inv-loop
+    μ-loop
+    Inv-search
+    μ-search
+    search-holds
+    loop-holds
+    on-cycle-requires
+    add-to
+    loop-less
+    loop-again
+    add-from
+    search-less
+    search-again
+    returns
+    returns-2)
