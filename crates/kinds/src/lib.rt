@@ -8,10 +8,10 @@ ghost use Rattle.kinds.specs.Judge.{roomFor, countsAgree, inOrder, judge
 use answers::Name;
 use answers::Refusal;
 use answers::Verdict;
+use basic::both;
+use basic::either;
+use basic::index;
 use frames::byte_at;
-use tables::both;
-use tables::either;
-use tables::index;
 
 // Which frames may come next: the header, rows and the end, or nothing more.
 pub enum Stage {
@@ -182,11 +182,11 @@ fn frame_fits(k: u8, roles: u8, line: &[u8]) -> bool
     }
     if k == 32 {
         let row = periodic_row(line);
-        return tables::periodic_fits(tables::periodic_row(&row, 0), roles);
+        return limits::periodic_fits(tables::periodic_row(&row, 0), roles);
     }
     if k == 48 {
         let row = trigger_row(line);
-        return tables::trigger_fits(&row, 0, roles);
+        return limits::trigger_fits(&row, 0, roles);
     }
     true
 }
@@ -249,8 +249,8 @@ fn is_kind(line: &[u8], stage: Stage, k: u8) -> bool
 fn end_agrees(line: &[u8], k: u8, periodics: u16, triggers: u16) -> bool
     ensures { λ r. ⌜ r ≡ countsAgree k (byteAt (bytesOf (now (line .entry))) 1) (two (bytesOf (now (line .entry))) 2) periodics triggers ⌝ }
 {
-    let a = tables::wide(byte_at(line, 1));
-    let b = 256 * tables::wide(byte_at(line, 2)) + tables::wide(byte_at(line, 3));
+    let a = basic::wide(byte_at(line, 1));
+    let b = 256 * basic::wide(byte_at(line, 2)) + basic::wide(byte_at(line, 3));
     counts_agree(k, a, b, wide16(periodics), wide16(triggers))
 }
 

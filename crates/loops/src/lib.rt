@@ -37,14 +37,14 @@ fn reaches(row: &Row, b: u8) -> bool
     requires { ⌜ b < EVENTS ⌝ }
     ensures { λ r. ⌜ r ≡ reaches (now (row .entry)) b ⌝ }
 {
-    row[tables::index(b)]
+    row[basic::index(b)]
 }
 
 // The row with event b added, where `on`. What is no event joins no row.
 fn with(row: &mut Row, b: u8, on: bool)
     ensures { λ _. ⌜ ((f : ℕ → Bool) → RowIs f (now (row .entry)) → RowIs (λ x. f x || (on && eqb b x)) (now (row .exit))) ⌝ }
 {
-    let i = tables::index(b);
+    let i = basic::index(b);
     if on {
         if i < 128 {
             row[i] = true;
@@ -70,7 +70,7 @@ fn leads(rows: &Rows, a: u8, b: u8) -> bool
     requires { ⌜ (a < EVENTS) × (b < EVENTS) ⌝ }
     ensures { λ r. ⌜ r ≡ edgesOf (now (rows .entry)) a b ⌝ }
 {
-    let i = tables::index(a);
+    let i = basic::index(a);
     reaches(&rows[i], b)
 }
 
@@ -78,7 +78,7 @@ fn leads(rows: &Rows, a: u8, b: u8) -> bool
 fn link(rows: &mut Rows, a: u8, b: u8, on: bool)
     ensures { λ _. ⌜ Become (linked on a b) (now (rows .entry)) (now (rows .exit)) ⌝ }
 {
-    let i = tables::index(a);
+    let i = basic::index(a);
     if i < 128 {
         with(&mut rows[i], b, on);
     }
@@ -89,8 +89,8 @@ fn take_over(rows: &mut Rows, a: u8, k: u8)
     requires { ⌜ (a < EVENTS) × (k < EVENTS) ⌝ }
     ensures { λ _. ⌜ Become (takenOver a k) (now (rows .entry)) (now (rows .exit)) ⌝ }
 {
-    let i = tables::index(a);
-    let j = tables::index(k);
+    let i = basic::index(a);
+    let j = basic::index(k);
     if leads(rows, a, k) {
         let x = rows[i];
         let y = rows[j];
@@ -126,7 +126,7 @@ fn event_count(triggers: &[u8], i: u16) -> u8
 fn event_at(triggers: &[u8], i: u16, j: u8) -> u8
     ensures { λ r. ⌜ r ≡ triggerAt (now (triggers .entry)) i .event j ⌝ }
 {
-    tables::byte(triggers, 13 * tables::row_index(i) + 2 + tables::index(j))
+    tables::byte(triggers, 13 * basic::row_index(i) + 2 + basic::index(j))
 }
 
 // The conflicting event: the same role and the other low bit.
@@ -296,7 +296,7 @@ fn levels(reach: &Rows) -> [u8; 128]
     let mut r = [0; 128];
     for e in 0..128 {
         let size = column(reach, e);
-        let i = tables::index(e);
+        let i = basic::index(e);
         r[i] = size;
     }
     r

@@ -17,11 +17,11 @@ ghost use Rattle.theory.specs.LoopTest.{loopPlace};
 use answers::Name;
 use answers::Refusal;
 use answers::Verdict;
+use basic::both;
 use frames::byte_at;
 use kinds::Seen;
 use kinds::Stage;
 use loops::Found;
-use tables::both;
 
 // What was read: the role count and the row counts.
 pub struct Read {
@@ -98,7 +98,7 @@ fn put_periodic(line: &[u8], k: u8, n: u16, table: &mut [u8])
     ensures { λ _. ⌜ now (table .exit) ≡ tableAfter k PERIODIC n (periodicRow (bytesOf (now (line .entry)))) (now (table .entry)) ⌝ }
 {
     let row = kinds::periodic_row(line);
-    put_row(k, 32, tables::row_index(n), &row, table);
+    put_row(k, 32, basic::row_index(n), &row, table);
 }
 
 fn put_trigger(line: &[u8], k: u8, n: u16, table: &mut [u8])
@@ -106,7 +106,7 @@ fn put_trigger(line: &[u8], k: u8, n: u16, table: &mut [u8])
     ensures { λ _. ⌜ now (table .exit) ≡ tableAfter k TRIGGER n (triggerRow (bytesOf (now (line .entry)))) (now (table .entry)) ⌝ }
 {
     let row = kinds::trigger_row(line);
-    put_row(k, 48, tables::row_index(n), &row, table);
+    put_row(k, 48, basic::row_index(n), &row, table);
 }
 
 // What a frame that passed does.

@@ -2,12 +2,12 @@
 // with the line `bad case`.
 ghost use Prim.Native.Nat.{_≤_};
 use answers::Answer;
+use basic::both;
+use basic::index;
+use basic::row_index;
 use sheet::Read;
 use sheet::Reading;
-use tables::both;
 use tables::byte;
-use tables::index;
-use tables::row_index;
 
 // The numbers of a head line: the length of the sheet, those of both tables in rows, and the fill.
 struct Case {

@@ -1,10 +1,10 @@
--- `tables::fits_from` meets its contract: the calls in a line are the definition's parts.
+-- `limits::fits_from` meets its contract: the calls in a line are the definition's parts.
 -- Assumes nothing.
 use Rattle.theory.specs.Sheet.{triggerFits}
 use Rattle.tables.specs.Layout.{triggerFrom}
 use borrow.Author.Needs.{needs}
-use Rattle.tables.proofs.fits_from.Statement.{statement}
-use Rattle.tables.proofs.fits_from.Tie as tie
+use Rattle.limits.proofs.fits_from.Statement.{statement}
+use Rattle.limits.proofs.fits_from.Tie as tie
 
 byte-requires : tie.Need-byte-requires
 byte-requires c κs = search needs

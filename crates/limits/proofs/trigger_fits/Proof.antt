@@ -1,8 +1,8 @@
--- `tables::trigger_fits` meets its contract.
+-- `limits::trigger_fits` meets its contract.
 -- Assumes nothing.
 use borrow.Author.Needs.{needs}
-use Rattle.tables.proofs.trigger_fits.Statement.{statement}
-use Rattle.tables.proofs.trigger_fits.Tie as tie
+use Rattle.limits.proofs.trigger_fits.Statement.{statement}
+use Rattle.limits.proofs.trigger_fits.Tie as tie
 
 row-index-requires : tie.Need-row-index-requires
 row-index-requires c κs = search needs

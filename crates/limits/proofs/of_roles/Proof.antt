@@ -1,8 +1,8 @@
--- `tables::of_roles` meets its contract.
+-- `limits::of_roles` meets its contract.
 -- Assumes nothing.
 use borrow.Author.Needs.{needs}
-use Rattle.tables.proofs.of_roles.Statement.{statement}
-use Rattle.tables.proofs.of_roles.Tie as tie
+use Rattle.limits.proofs.of_roles.Statement.{statement}
+use Rattle.limits.proofs.of_roles.Tie as tie
 
 wide-requires : tie.Need-wide-requires
 wide-requires c κs = search needs

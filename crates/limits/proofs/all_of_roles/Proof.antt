@@ -1,4 +1,4 @@
--- `tables::all_of_roles` meets its contract. The loop's invariant: each of the bytes below j is within the limit.
+-- `limits::all_of_roles` meets its contract. The loop's invariant: each of the bytes below j is within the limit.
 -- Assumes nothing.
 use mathlib.Core.Path.{_≡_, sym}
 use mathlib.Core.Bool.{Bool, true, false}
@@ -7,10 +7,10 @@ use borrow.Author.Tests.{not-true, not-false}
 use Rattle.theory.specs.Below.{allBelow}
 use Rattle.theory.specs.Sheet.{ofRoles}
 use Rattle.theory.specs.Laws.Below.{all-none, all-next, all-end, all-fails}
 use Rattle.tables.specs.Layout.{byteAt}
 use borrow.Author.Needs.{needs}
-use Rattle.tables.proofs.all_of_roles.Statement.{statement}
-use Rattle.tables.proofs.all_of_roles.Tie as tie
+use Rattle.limits.proofs.all_of_roles.Statement.{statement}
+use Rattle.limits.proofs.all_of_roles.Tie as tie
 
 abbrev Inv-loop : tie.InvT-loop
 Inv-loop table at n roles j₀ j = (j ≤ n) × (allBelow j (λ x. ofRoles roles (byteAt table (at + x))) ≡ true)

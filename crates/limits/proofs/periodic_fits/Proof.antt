@@ -1,9 +1,9 @@
--- `tables::periodic_fits` meets its contract: the calls in a line are the definition's parts.
+-- `limits::periodic_fits` meets its contract: the calls in a line are the definition's parts.
 -- Assumes nothing.
 use Rattle.theory.specs.Sheet.{periodicFits}
 use borrow.Author.Needs.{needs}
-use Rattle.tables.proofs.periodic_fits.Statement.{statement}
-use Rattle.tables.proofs.periodic_fits.Tie as tie
+use Rattle.limits.proofs.periodic_fits.Statement.{statement}
+use Rattle.limits.proofs.periodic_fits.Tie as tie
 
 end-fits-requires : tie.Need-end-fits-requires
 end-fits-requires c κs = search needs

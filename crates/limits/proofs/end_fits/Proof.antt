@@ -1,9 +1,9 @@
--- `tables::end_fits` meets its contract: its two tests are those of the definition.
+-- `limits::end_fits` meets its contract: its two tests are those of the definition.
 -- Assumes nothing.
 use Rattle.theory.specs.Sheet.{endFits}
 use borrow.Author.Needs.{needs}
-use Rattle.tables.proofs.end_fits.Statement.{statement}
-use Rattle.tables.proofs.end_fits.Tie as tie
+use Rattle.limits.proofs.end_fits.Statement.{statement}
+use Rattle.limits.proofs.end_fits.Tie as tie
 
 between-requires : tie.Need-between-requires
 between-requires c κs = search needs

@@ -1,0 +1,16 @@
+-- The contracts of this crate's public functions leave one possible answer: any two that they allow are equal.
+-- Assumes nothing.
+use mathlib.Core.Path.{_≡_}
+use mathlib.Core.Bool.{Bool, _&&_, _||_}
+use Prim.Native.Nat.{ℕ}
+use Rattle.theory.specs.Laws.Exact.{exact}
+
+pub both-exact : (a b r r′ : Bool) → r ≡ (a && b) → r′ ≡ (a && b) → r ≡ r′
+both-exact a b r r′ = exact
+
+pub either-exact : (a b r r′ : Bool) → r ≡ (a || b) → r′ ≡ (a || b) → r ≡ r′
+either-exact a b r r′ = exact
+
+-- `wide`, `index` and `row_index`
+pub widened-exact : (x r r′ : ℕ) → r ≡ x → r′ ≡ x → r ≡ r′
+widened-exact x r r′ = exact

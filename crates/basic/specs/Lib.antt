@@ -1,0 +1,2 @@
+-- Tests of two parts, and numbers widened.
+pub mod Exact
