@@ -1,2 +1,2 @@
--- Tests of two parts, and numbers widened.
+-- Tests of two parts, tests and numbers as other numbers, and the conflicting event.
 pub mod Exact

@@ -1,4 +1,3 @@
--- What is proved of lines and frames, and what readers of either use in place of the definitions' text.
-pub mod Lines
+-- What is proved of frames, and what their readers use in place of the definitions' text.
 pub mod Frame
 pub mod Exact

@@ -1,5 +1,3 @@
--- What a line may say and where it may stand: document 01's kinds of frames, and the tests of a line in their order.
+-- The kinds of frames: how many bytes each has, and where each may stand.
 pub mod Kinds
-pub mod Judge
-pub mod Laws
 pub mod Exact

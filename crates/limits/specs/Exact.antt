@@ -2,19 +2,14 @@
 -- Assumes nothing.
 use mathlib.Core.Path.{_≡_}
 use mathlib.Core.Bool.{Bool}
-use mathlib.Core.List.{List}
 use Prim.Native.Nat.{ℕ}
-use Rattle.theory.specs.Sheet.{ofRoles, periodicFits, triggerFits}
+use Rattle.theory.specs.Sheet.{ofRoles, periodicFits}
 use Rattle.theory.specs.Laws.Exact.{exact}
-use Rattle.tables.specs.declared.PeriodicRow.{PeriodicRow}
-use Rattle.tables.specs.Layout.{triggerAt}
-use Rattle.tables.specs.Rows.{periodicOf}
+use Rattle.periodics.specs.declared.PeriodicRow.{PeriodicRow}
+use Rattle.periodics.specs.Rows.{periodicOf}
 
 pub of-roles-exact : (roles e : ℕ) (r r′ : Bool) → r ≡ ofRoles roles e → r′ ≡ ofRoles roles e → r ≡ r′
 of-roles-exact roles e r r′ = exact
 
 pub periodic-fits-exact : (w : PeriodicRow) (roles : ℕ) (r r′ : Bool) → r ≡ periodicFits roles (periodicOf w) → r′ ≡ periodicFits roles (periodicOf w) → r ≡ r′
 periodic-fits-exact w roles r r′ = exact
-
-pub trigger-fits-exact : (table : List ℕ) (i roles : ℕ) (r r′ : Bool) → r ≡ triggerFits roles (triggerAt table i) → r′ ≡ triggerFits roles (triggerAt table i) → r ≡ r′
-trigger-fits-exact table i roles r r′ = exact

@@ -1,5 +1,3 @@
 -- What is proved of reading.
-pub mod Took
-pub mod Lines
-pub mod Loop
+pub mod Lengths
 pub mod Exact

@@ -1,4 +1,3 @@
 -- Reading a sheet: document 01, 'The sheet', and the reader's part of 'What comes back'. Everything below `Laws` is proved of it.
-pub mod Line
 pub mod Sheet
 pub mod Laws

@@ -1,16 +1,13 @@
 -- The contracts of this crate's public functions leave one possible answer: any two that they allow are equal.
 -- Assumes nothing.
-use mathlib.Core.Path.{_≡_, sym, _∙_}
+use mathlib.Core.Path.{_≡_}
 use mathlib.Core.List.{List}
 use Prim.Native.Nat.{ℕ, _+_, _*_}
 use lib.ListN.{length}
 use lib.Seq.{paste}
-use Rattle.theory.specs.Sheet.{Periodic}
 use Rattle.theory.specs.Laws.Exact.{exact}
 use Rattle.tables.specs.declared.Sizes.{Sizes}
-use Rattle.tables.specs.declared.PeriodicRow.{PeriodicRow}
-use Rattle.tables.specs.Layout.{TRIGGER-BYTES, byteAt, periodicAt}
-use Rattle.tables.specs.Rows.{periodicOf}
+use Rattle.tables.specs.Layout.{TRIGGER-BYTES, byteAt}
 use Rattle.tables.specs.Agreed.{sizes}
 
 pub agreed-sizes-exact : (r r′ : Sizes) → r ≡ sizes → r′ ≡ sizes → r ≡ r′
@@ -18,12 +15,6 @@ agreed-sizes-exact r r′ = exact
 
 pub byte-exact : (table : List ℕ) (i r r′ : ℕ) → r ≡ byteAt table i → r′ ≡ byteAt table i → r ≡ r′
 byte-exact table i r r′ = exact
-
--- a periodic row is determined by what it is to the model
-pub periodic-row-exact : (table : List ℕ) (i : ℕ) (r r′ : PeriodicRow) → periodicOf r ≡ periodicAt table i → periodicOf r′ ≡ periodicAt table i → r ≡ r′
-periodic-row-exact table i r r′ h h′ =
-    let p : periodicOf r ≡ periodicOf r′ = exact h h′ in
-    λ k. record { begin = p k .begin; end = p k .end; period = p k .period; first = p k .first; run = p k .run; event = p k .event; priority = p k .priority }
 
 pub trigger-byte-exact : (table : List ℕ) (i k r r′ : ℕ) → r ≡ byteAt table (TRIGGER-BYTES * i + k) → r′ ≡ byteAt table (TRIGGER-BYTES * i + k) → r ≡ r′
 trigger-byte-exact table i k r r′ = exact

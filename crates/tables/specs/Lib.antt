@@ -1,7 +1,7 @@
 -- What is lent, to the byte: the tables' rows, the buffers and the role set as the model sees them.
 pub mod Layout
-pub mod Rows
 pub mod Buffers
+pub mod Asked
 pub mod Agreed
 pub mod Sample
 pub mod Laws

@@ -1,6 +1,7 @@
 -- What is proved of the definitions, and what callers use in place of their text.
 pub mod Tests
 pub mod Below
+pub mod First
 pub mod Instant
 pub mod Limits
 pub mod Unique
@@ -9,6 +10,7 @@ pub mod Derive
 pub mod Reach
 pub mod Graph
 pub mod Levels
+pub mod Stage
 pub mod OneSolution
 pub mod Loop
 pub mod History

@@ -5,8 +5,8 @@ use answers::Answer;
 use basic::both;
 use basic::index;
 use basic::row_index;
-use sheet::Read;
-use sheet::Reading;
+use readings::Read;
+use readings::Reading;
 use tables::byte;
 
 // The numbers of a head line: the length of the sheet, those of both tables in rows, and the fill.
@@ -291,7 +291,7 @@ fn put_result(
     triggers: &[u8],
     fill: u8,
 ) -> usize {
-    let n = put_answer(out, answers::answer_of(sheet::verdict_of(reading)));
+    let n = put_answer(out, answers::answer_of(readings::verdict_of(reading)));
     match reading {
         Reading::Good(read) => put_good(out, n, read, periodics, triggers),
         Reading::Bad(refusal) => put_bad(out, n, is_as_given(periodics, triggers, fill)),

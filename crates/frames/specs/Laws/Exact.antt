@@ -3,17 +3,10 @@
 use mathlib.Core.Path.{_≡_}
 use mathlib.Core.Bool.{Bool}
 use mathlib.Core.List.{List}
-use Prim.Native.Nat.{ℕ, _+_}
-use lib.ListN.{length, getD, drop}
+use Prim.Native.Nat.{ℕ}
+use lib.ListN.{length, getD}
 use Rattle.theory.specs.Laws.Exact.{exact}
-use Rattle.frames.specs.Frame.{bytesOf, framed, checked}
-use Rattle.frames.specs.Laws.Lines.{span}
-
-pub line-end-exact : (text : List ℕ) (at r r′ : ℕ) → r ≡ at + span (drop at text) → r′ ≡ at + span (drop at text) → r ≡ r′
-line-end-exact text at r r′ = exact
-
-pub is-framed-exact : (line : List ℕ) (r r′ : Bool) → r ≡ framed line → r′ ≡ framed line → r ≡ r′
-is-framed-exact line r r′ = exact
+use Rattle.frames.specs.Frame.{bytesOf, checked}
 
 pub is-checked-exact : (line : List ℕ) (r r′ : Bool) → r ≡ checked (bytesOf line) → r′ ≡ checked (bytesOf line) → r ≡ r′
 is-checked-exact line r r′ = exact

@@ -2,16 +2,16 @@
 -- Assumes nothing.
 use mathlib.Core.Path.{_≡_, refl, ap}
 use mathlib.Core.Logic.{⊎-elim}
-use mathlib.Core.Bool.{Bool, true, false, cond}
+use mathlib.Core.Bool.{true, false}
 use mathlib.Core.List.{List, [], _∷_}
-use Prim.Native.Nat.{ℕ, zero, suc, _+_, _*_, _-_, _/_, _%_, _≤_, _<_}
+use Prim.Native.Nat.{ℕ, zero, suc, _+_, _*_, _-_, _/_, _≤_, _<_}
 use native.Mathlib.Omega.{arith}
 use lib.Dec.{ltb, leb}
 use lib.ListN.{length, getD, drop, List·getD-eq-default, drop-of-length-le}
 use borrow.Author.Tests.{leb-true}
 use Rattle.theory.specs.Laws.Tests.{test}
-use Rattle.frames.specs.Frame.{isDigit, value, bytesOf, firstBad, sum}
-use Rattle.frames.specs.Laws.Lines.{here}
+use Rattle.text.specs.Laws.Lines.{here}
+use Rattle.frames.specs.Frame.{value, bytesOf, sum}
 
 pub value-small : (c : ℕ) → value c < 16
 unfolding value
@@ -55,20 +55,10 @@ byte-here (a ∷ b ∷ l) (suc i) h =
 pub byte-past : (l : List ℕ) (i : ℕ) → length l / 2 ≤ i → getD (bytesOf l) i 0 ≡ 0
 byte-past l i h = List·getD-eq-default (bytesOf l) 0 (omega (arith, length-bytes l))
 
--- ---- one character, or one byte, on
+-- ---- one byte on
 
-module _ (l : List ℕ) (i : ℕ) (h : i < length l) where
-  pub bad-more : isDigit (getD l i 0) ≡ true → firstBad (drop i l) ≡ firstBad (drop (i + 1) l) + 1
-  bad-more e = rw (here l i h, e) (omega arith)
-
-  pub bad-here : isDigit (getD l i 0) ≡ false → firstBad (drop i l) ≡ 0
-  bad-here e = rw (here l i h, e)
-
-  pub sum-more : sum (drop i l) ≡ getD l i 0 + sum (drop (i + 1) l)
-  sum-more = rw (here l i h)
-
-pub bad-end : (l : List ℕ) (i : ℕ) → length l ≤ i → firstBad (drop i l) ≡ 0
-bad-end l i h = rw (drop-of-length-le l h)
+pub sum-more : (l : List ℕ) (i : ℕ) → i < length l → sum (drop i l) ≡ getD l i 0 + sum (drop (i + 1) l)
+sum-more l i h = rw (here l i h)
 
 pub sum-end : (l : List ℕ) (i : ℕ) → length l ≤ i → sum (drop i l) ≡ 0
 sum-end l i h = rw (drop-of-length-le l h)

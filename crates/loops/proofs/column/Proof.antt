@@ -3,8 +3,8 @@
 use mathlib.Core.Path.{_≡_, ap, _∙_}
 use Prim.Native.Nat.{_-_, _≤_}
 use Rattle.theory.specs.Below.{one, countBelow}
-use Rattle.loops.specs.Rows.{edgesOf}
-use Rattle.loops.specs.Laws.Levels.{count-none, count-next, count-end}
+use Rattle.rows.specs.Rows.{edgesOf}
+use Rattle.theory.specs.Laws.Below.{count-none, count-next, count-end}
 use borrow.Author.Needs.{needs}
 use Rattle.loops.proofs.column.Statement.{statement}
 use Rattle.loops.proofs.column.Tie as tie

@@ -3,7 +3,8 @@
 use mathlib.Core.Path.{_≡_}
 use mathlib.Core.Bool.{false}
 use Prim.Native.Nat.{ℕ, _+_, _-_, _*_, _≤_, _<_}
-use Rattle.loops.specs.Rows.{edgesOf, cycleAt}
+use Rattle.rows.specs.Rows.{edgesOf}
+use Rattle.loops.specs.Tested.{cycleAt}
 use Rattle.loops.specs.Laws.Search.{pairs-next, first-pair, no-pair}
 use borrow.Author.Needs.{needs}
 use native.Mathlib.Omega.{arith}

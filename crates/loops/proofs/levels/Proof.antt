@@ -2,7 +2,7 @@
 -- Assumes nothing.
 use Prim.Native.Nat.{_-_, _≤_}
 use Rattle.theory.specs.Below.{countBelow}
-use Rattle.loops.specs.Rows.{edgesOf}
+use Rattle.rows.specs.Rows.{edgesOf}
 use Rattle.loops.specs.Laws.Levels.{Filled, filled-none, filled-next, filled-end}
 use borrow.Author.Needs.{needs}
 use Rattle.loops.proofs.levels.Statement.{statement}

@@ -1,31 +1,18 @@
--- Laws of counting in a column, and of the list of levels.
+-- Laws of the list of levels: what makes two counts the same, and the list as it is filled.
 -- Assumes nothing.
 use mathlib.Core.Path.{_≡_, refl, sym, ap, ap₂, _∙_}
 use mathlib.Core.Logic.{⊎-elim}
 use mathlib.Core.Bool.{Bool}
 use mathlib.Core.List.{List, _∷_}
 use Prim.Native.Nat.{ℕ, zero, suc, _+_, _≤_, _<_}
-use native.Mathlib.Numerals.{add-one}
 use native.Mathlib.Omega.{arith}
 use lib.ListN.{length, getD, set, replicate, length-set, length-replicate}
 use lib.Seq.{getD-set-same, getD-set-other, ext-getD}
-use Rattle.theory.specs.Below.{one, countBelow}
+use Rattle.theory.specs.Below.{countBelow}
 use Rattle.theory.specs.Laws.Below.{below-cases}
 use Rattle.loops.specs.Tested.{tabulate}
 
--- ---- how many of those below i, one more, and all
-
-pub count-none : (f : ℕ → Bool) → 0 ≡ countBelow 0 f
-unfolding countBelow
-count-none f = refl
-
-pub count-next : (i n m : ℕ) (f : ℕ → Bool) → m ≡ one (f i) → n ≡ countBelow i f → n + m ≡ countBelow (i + 1) f
-unfolding countBelow
-count-next i n m f p q = rw (add-one, p, q) (omega arith)
-
-pub count-end : (n i m : ℕ) (f : ℕ → Bool) → i ≤ n → n ≤ i → m ≡ countBelow i f → m ≡ countBelow n f
-count-end n i m f l k p = let e : i ≡ n = omega arith in rw e at p
-
+-- tests that are the same below n have the same count
 pub count-same : (n : ℕ) (f g : ℕ → Bool) → ((k : ℕ) → k < n → f k ≡ g k) → countBelow n f ≡ countBelow n g
 unfolding countBelow
 count-same zero f g h = refl

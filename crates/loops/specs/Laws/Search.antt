@@ -12,10 +12,9 @@ use Rattle.theory.specs.Numbers.{EVENTS}
 use Rattle.theory.specs.Below.{firstBelow}
 use Rattle.theory.specs.Graph.{Edges, pairPlace}
 use Rattle.theory.specs.LoopTest.{PAIRS}
-use Rattle.theory.specs.Laws.Loop.{first-is, first-none}
+use Rattle.theory.specs.Laws.First.{first-is, first-none}
 use Rattle.loops.specs.declared.Found.the-variants.{At, Nothing}
-use Rattle.loops.specs.Tested.{foundAt}
-use Rattle.loops.specs.Rows.{cycleAt}
+use Rattle.loops.specs.Tested.{foundAt, cycleAt}
 
 -- ---- the pair of a number
 
@@ -69,9 +68,3 @@ module _ (M R : Edges) where
 
   pub no-pair : ((k : ℕ) → k < PAIRS → cycleAt M R k ≡ false) → Nothing ≡ foundAt (firstBelow PAIRS (cycleAt M R))
   no-pair h = sym (ap foundAt (first-none PAIRS (cycleAt M R) h) ∙ found-past PAIRS (omega arith))
-
--- tests that are the same below n have the same first
-pub first-same : (n : ℕ) (f g : ℕ → Bool) → ((k : ℕ) → k < n → f k ≡ g k) → firstBelow n f ≡ firstBelow n g
-unfolding firstBelow
-first-same zero f g h = refl
-first-same (suc n) f g h = rw (first-same n f g (λ k l. h k (omega arith)), h n (omega arith)) refl

@@ -11,15 +11,15 @@ use Rattle.theory.specs.Below.{countBelow, firstBelow}
 use Rattle.theory.specs.Sheet.{Sheet}
 use Rattle.theory.specs.Graph.{node, plus, minus, edge}
 use Rattle.theory.specs.LoopTest.{through, reach, PAIRS, loopPlace, levelOf}
+use Rattle.theory.specs.Laws.First.{first-same}
 use Rattle.tables.specs.Layout.{triggersOf}
+use Rattle.rows.specs.Rows.{Row, edgesOf, RowIs, RowsAre, Become}
+use Rattle.rows.specs.Laws.Rows.{rows-same, rows-say, empty-rows}
+use Rattle.edges.specs.Drawing.{tailOf, drawsBelow, addedFrom}
+use Rattle.edges.specs.Laws.{draws-all}
 use Rattle.loops.specs.declared.Found.{Found}
 use Rattle.loops.specs.declared.Tested.{Tested}
-use Rattle.loops.specs.Tested.{foundAt, tabulate, tested}
-use Rattle.loops.specs.Rows.{Row, edgesOf, RowIs, RowsAre, Become, addedFrom, cycleAt}
-use Rattle.loops.specs.Drawing.{tailOf, drawsBelow}
-use Rattle.loops.specs.Laws.Rows.{rows-same, rows-say, empty-rows}
-use Rattle.loops.specs.Laws.Drawing.{draws-all}
-use Rattle.loops.specs.Laws.Search.{first-same}
+use Rattle.loops.specs.Tested.{foundAt, cycleAt, tabulate, tested}
 use Rattle.loops.specs.Laws.Levels.{count-same, tabulate-same}
 
 -- rows that hold the − edges and rows that hold the reach give the answer

@@ -1,9 +1,9 @@
 -- `sheet::read_within` meets its contract: what the lines made goes to the loop test, or is the refusal.
 -- Assumes nothing.
 use mathlib.Core.Path.{ap, _∙_}
-use Rattle.sheet.specs.Line.{Step}
+use Rattle.lines.specs.Line.{Step}
 use Rattle.sheet.specs.Sheet.{byStep}
-use Rattle.sheet.specs.Laws.Took.{went, stopped}
+use Rattle.lines.specs.Laws.Took.{went, stopped}
 use borrow.Author.Needs.{needs}
 use Rattle.sheet.proofs.read_within.Statement.{statement}
 use Rattle.sheet.proofs.read_within.Tie as tie
@@ -39,6 +39,7 @@ same-length-2 : tie.Need-same-length-2
 same-length-2 c = search needs
 
 returns : tie.Need-returns
+unfolding byStep
 returns c =
     let h = c .before .before .before .before in
     let w = h .before .before .before .before .before .before in

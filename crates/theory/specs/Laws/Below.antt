@@ -121,3 +121,15 @@ count-strict (suc n) f g h i l p q =
     omega (arith, count-mono n f g (λ j k. h j (omega arith))))
     (λ (k : i < n). omega (arith, one-mono (f n) (g n) (h n (omega arith)), count-strict n f g (λ j m. h j (omega arith)) i k p q))
     (below-cases l)
+
+-- a count from 0 on: none yet, one more, and the end, where i has come to n
+pub count-none : (f : ℕ → Bool) → 0 ≡ countBelow 0 f
+unfolding countBelow
+count-none f = refl
+
+pub count-next : (i n m : ℕ) (f : ℕ → Bool) → m ≡ one (f i) → n ≡ countBelow i f → n + m ≡ countBelow (i + 1) f
+unfolding countBelow
+count-next i n m f p q = rw (add-one, p, q) (omega arith)
+
+pub count-end : (n i m : ℕ) (f : ℕ → Bool) → i ≤ n → n ≤ i → m ≡ countBelow i f → m ≡ countBelow n f
+count-end n i m f l k p = let e : i ≡ n = omega arith in rw e at p

@@ -99,6 +99,10 @@ module _ (sh : Sheet) (level : ℕ → ℕ) (lv : Levels sh level) where
   unfolding up
   up-other e n = rw n refl
 
+  -- the head of a trigger that counts is a node
+  pub up-head : (i : ℕ) → i < sh .triggerCount → counts sh i ≡ true → up sh level (sh .trigger i .head) ≡ suc (level (sh .trigger i .head))
+  up-head i l o = up-node (sh .trigger i .head) (head-node sh i l o)
+
   pub up-most : (m : ℕ) → ((e : ℕ) → level e ≤ m) → (e : ℕ) → up sh level e ≤ suc m
   up-most m h e =
       ⊎-elim
@@ -111,7 +115,7 @@ module _ (sh : Sheet) (level : ℕ → ℕ) (lv : Levels sh level) where
       let a : ℕ = sh .trigger i .event j in
       let c : ℕ = conf a in
       let k : counts sh i ≡ true = oc i o in
-      let h : raised (sh .trigger i .head) ≡ suc (level (sh .trigger i .head)) = up-node (sh .trigger i .head) (head-node sh i l k) in (
+      let h = up-head i l k in (
         ⊎-elim
             (λ (n : node sh a ≡ true). omega (arith, up-node a n, lv .no-lower i j l k m n))
             (λ (n : node sh a ≡ false). omega (arith, up-other a n))

@@ -1,0 +1,75 @@
+-- The roles as a number are the roles after: each role below 64 by its own turn, and above there are none.
+-- Assumes nothing.
+use mathlib.Core.Path.{_≡_, refl, sym, ap, _∙_}
+use mathlib.Core.Logic.{⊎-elim, by-cases}
+use mathlib.Core.Bool.{Bool, true, false, not, _&&_, _||_}
+use mathlib.Core.List.{List}
+use Prim.Native.Nat.{ℕ, zero, suc, _+_, _*_, _^_, _≤_, _<_}
+use native.Mathlib.Decide.{decLt}
+use native.Mathlib.Numerals.{add-one}
+use native.Mathlib.Omega.{arith}
+use lib.Dec.{ltb, eqb}
+use borrow.Author.Tests.{lt-ltb, le-ltb, eq-eqb, ne-eqb}
+use Rattle.theory.specs.Numbers.{ROLES}
+use Rattle.theory.specs.Events.{Events, Roles, disable, enable}
+use Rattle.theory.specs.Instant.{rolesAfter}
+use Rattle.tables.specs.Buffers.{bit, rolesOf, eventsOf}
+use Rattle.masks.specs.Masks.{withRole}
+use Rattle.masks.specs.Laws.Bits.{bit-none, bit-high}
+use Rattle.masks.specs.Laws.Joined.{role-joined}
+use Rattle.masks.specs.Laws.Live.{live-none}
+use Rattle.after.specs.After.{rolesBelow}
+
+-- ---- role after role
+
+pub roles-none : (ST : Roles) (S : Events) → 0 ≡ rolesBelow ST S 0
+unfolding rolesBelow
+roles-none ST S = refl
+
+pub roles-next : (ST : Roles) (S : Events) (n a b : ℕ) (on : Bool) → a ≡ rolesBelow ST S n → on ≡ rolesAfter ST S n → b ≡ withRole a n on → b ≡ rolesBelow ST S (n + 1)
+unfolding rolesBelow
+roles-next ST S n a b on h e w = rw add-one (rw (h, e) at w)
+
+pub roles-end : (ST : Roles) (S : Events) (n i a : ℕ) → i ≤ n → n ≤ i → a ≡ rolesBelow ST S i → a ≡ rolesBelow ST S n
+roles-end ST S n i a h k e = let z : i ≡ n = omega arith in rw z at e
+
+-- ---- what they are
+
+roles-in : (ST : Roles) (S : Events) (n : ℕ) → n ≤ ROLES → (k : ℕ) → bit (rolesBelow ST S n) k ≡ (ltb k n && rolesAfter ST S k)
+unfolding rolesBelow
+roles-in ST S zero h k = bit-none k ∙ sym (ap (λ (b : Bool). b && rolesAfter ST S k) (le-ltb k 0 (omega arith)))
+roles-in ST S (suc n) h k =
+    let on : Bool = rolesAfter ST S n in
+    role-joined (rolesBelow ST S n) n k on (omega arith)
+    ∙ ap (λ (b : Bool). b || (on && eqb n k)) (roles-in ST S n (omega arith) k)
+    ∙ by-cases (decLt k n)
+    (λ (l : k < n). rw (lt-ltb k n l, lt-ltb k (suc n) (omega arith), ne-eqb n k (λ e. omega arith)) (kept (rolesAfter ST S k) on))
+    (λ (l : ¬ (k < n)).
+    by-cases (decLt k (suc n))
+    (λ (m : k < suc n).
+    let e : n ≡ k = omega arith in
+    rw (le-ltb k n (omega arith), lt-ltb k (suc n) m, eq-eqb n k e) (came (rolesAfter ST S k) on (ap (rolesAfter ST S) e)))
+    (λ (m : ¬ (k < suc n)). rw (le-ltb k n (omega arith), le-ltb k (suc n) (omega arith), ne-eqb n k (λ e. omega arith)) (away on)))
+  where
+    kept : (a b : Bool) → (a || (b && false)) ≡ a
+    kept true b = refl
+    kept false true = refl
+    kept false false = refl
+
+    came : (a b : Bool) → b ≡ a → (b && true) ≡ a
+    came a true h = h
+    came a false h = h
+
+    away : (b : Bool) → (b && false) ≡ false
+    away true = refl
+    away false = refl
+
+-- THE LAW: of roles of 64 bits and a buffer's events, these are the roles after
+pub roles-are : (roles : ℕ) (l : List ℕ) → roles < 2 ^ 64 → (r : ℕ) → rolesOf (rolesBelow (rolesOf roles) (eventsOf l) ROLES) r ≡ rolesAfter (rolesOf roles) (eventsOf l) r
+unfolding rolesAfter
+roles-are roles l h r =
+    roles-in (rolesOf roles) (eventsOf l) ROLES (omega arith) r
+    ∙ by-cases (decLt r ROLES)
+    (λ (k : r < ROLES). rw (lt-ltb r ROLES k) refl)
+    (λ (k : ¬ (r < ROLES)).
+    rw (le-ltb r ROLES (omega arith), bit-high roles 64 r h (omega arith), live-none l (enable r) (omega arith)) refl)

@@ -1,0 +1,48 @@
+ghost use mathlib.Core.Path.{_≡_};
+ghost use Prim.Native.Nat.{_<_};
+ghost use Rattle.theory.specs.Numbers.{ROLES, EVENTS};
+ghost use Rattle.theory.specs.Below.{countBelow};
+ghost use Rattle.theory.specs.Events.{nonblocked};
+ghost use Rattle.theory.specs.Instant.{rolesAfter};
+ghost use Rattle.tables.specs.Buffers.{rolesOf, eventsOf};
+ghost use Rattle.after.specs.After.{rolesBelow};
+use basic::both;
+use basic::either;
+use basic::one;
+use live::live;
+use roles::role_on;
+use roles::with_role;
+
+// Role r is enabled after the instant: a nonblocked enable adds it, a nonblocked disable removes it, else it is kept.
+fn on_after(roles: u64, events: &[u16], r: u8) -> bool
+    requires { ⌜ r < ROLES ⌝ }
+    ensures { λ on. ⌜ on ≡ rolesAfter (rolesOf roles) (eventsOf (now (events .entry))) r ⌝ }
+{
+    let added = live(events, 2 * r + 1);
+    let removed = live(events, 2 * r);
+    both(either(role_on(roles, r), added), !removed)
+}
+
+// The roles after the instant, whose events the buffer holds.
+pub fn roles_after(roles: u64, events: &[u16]) -> u64
+    ensures { λ r. ⌜ r ≡ rolesBelow (rolesOf roles) (eventsOf (now (events .entry))) ROLES ⌝ }
+{
+    let mut after: u64 = 0;
+    for r in 0..64 {
+        let on = on_after(roles, events, r);
+        after = with_role(after, r, on);
+    }
+    after
+}
+
+// How many events have a nonblocked member in the events buffer.
+pub fn count(events: &[u16]) -> u8
+    ensures { λ r. ⌜ r ≡ countBelow EVENTS (nonblocked (eventsOf (now (events .entry))) (eventsOf (now (events .entry)))) ⌝ }
+{
+    let mut n: u8 = 0;
+    for e in 0..128 {
+        let t = live(events, e);
+        n = n + one(t);
+    }
+    n
+}

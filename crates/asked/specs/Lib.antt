@@ -1,0 +1,2 @@
+-- What the requests of one instant add to the events and to the waiting buffer.
+pub mod Exact

@@ -1,0 +1,2 @@
+-- The conditions and the body of a trigger.
+pub mod Exact

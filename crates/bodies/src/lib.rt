@@ -1,0 +1,54 @@
+ghost use mathlib.Core.Path.{_≡_};
+ghost use Rattle.theory.specs.Events.{holds};
+ghost use Rattle.theory.specs.Instant.{allows, met};
+ghost use Rattle.tables.specs.Layout.{triggerAt};
+ghost use Rattle.tables.specs.Buffers.{rolesOf, eventsOf};
+use live::live;
+use roles::role_on;
+use triggers::condition;
+use triggers::condition_count;
+use triggers::event;
+use triggers::event_count;
+
+// The condition c holds in the roles.
+pub fn holds(roles: u64, c: u8) -> bool
+    ensures { λ r. ⌜ r ≡ holds (rolesOf roles) c ⌝ }
+{
+    let on = role_on(roles, c / 2);
+    if c % 2 == 1 {
+        return on;
+    }
+    !on
+}
+
+// The conditions of trigger i all hold in the roles.
+pub fn allows(triggers: &[u8], i: u16, roles: u64) -> bool
+    ensures { λ r. ⌜ r ≡ allows (rolesOf roles) (triggerAt (now (triggers .entry)) i) ⌝ }
+{
+    let n = condition_count(triggers, i);
+    let mut j: u8 = 0;
+    while j < n {
+        let c = condition(triggers, i, j);
+        if !holds(roles, c) {
+            return false;
+        }
+        j += 1;
+    }
+    true
+}
+
+// The body of trigger i is met in the events buffer, which is also what blocks: each body event has a nonblocked member.
+pub fn met(events: &[u16], triggers: &[u8], i: u16) -> bool
+    ensures { λ r. ⌜ r ≡ met (eventsOf (now (events .entry))) (eventsOf (now (events .entry))) (triggerAt (now (triggers .entry)) i) ⌝ }
+{
+    let n = event_count(triggers, i);
+    let mut j: u8 = 0;
+    while j < n {
+        let e = event(triggers, i, j);
+        if !live(events, e) {
+            return false;
+        }
+        j += 1;
+    }
+    true
+}

@@ -1,0 +1,4 @@
+-- The due periodic events.
+pub mod Due
+pub mod Laws
+pub mod Exact

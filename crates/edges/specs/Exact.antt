@@ -1,0 +1,18 @@
+-- The contracts of this crate's public functions leave one possible answer: the rows of the code are there, one for each event, and each is whole.
+-- Assumes nothing.
+use mathlib.Core.Path.{_≡_}
+use mathlib.Core.Bool.{Bool}
+use mathlib.Core.List.{List}
+use Prim.Native.Nat.{ℕ}
+use Rattle.theory.specs.Sheet.{Sheet}
+use Rattle.theory.specs.Graph.{node}
+use Rattle.rows.specs.Rows.{Row, RowIs, Become}
+use Rattle.rows.specs.Exact.{wholeRows, row-one, become-exact}
+use Rattle.edges.specs.Drawing.{tailOf, drawsBelow, addedFrom}
+
+pub nodes-exact : (sh : Sheet) (r r′ : Row) → RowIs (node sh) r → RowIs (node sh) r′ → r ≡ r′
+nodes-exact sh = row-one (node sh)
+
+pub drawn-exact : (sh : Sheet) (n : ℕ) (heads : Row) (negative : Bool) (given r r′ : List Row) → wholeRows given
+    → Become (addedFrom heads (drawsBelow (tailOf negative) sh n)) given r → Become (addedFrom heads (drawsBelow (tailOf negative) sh n)) given r′ → r ≡ r′
+drawn-exact sh n heads negative = become-exact (addedFrom heads (drawsBelow (tailOf negative) sh n))

@@ -1,0 +1,69 @@
+ghost use mathlib.Core.Path.{_≡_};
+ghost use Prim.Native.Nat.{ℕ};
+ghost use Rattle.theory.specs.Graph.{counts, node};
+ghost use Rattle.tables.specs.Layout.{triggersOf};
+ghost use Rattle.rows.specs.Rows.{RowIs, Become};
+ghost use Rattle.edges.specs.Drawing.{tailOf, draws, drawsBelow, addedFrom};
+use rows::Row;
+use rows::Rows;
+
+// Trigger i counts: its delay is 0.
+fn counts_at(triggers: &[u8], i: u16) -> bool
+    ensures { λ r. ⌜ ((n : ℕ) → r ≡ counts (triggersOf n (now (triggers .entry))) i) ⌝ }
+{
+    triggers::delay(triggers, i) == 0
+}
+
+// The nodes: the head events of the first n triggers that count. The table may have any length and hold anything: past its end stands 0, and what is no event joins no row.
+pub fn nodes(triggers: &[u8], n: u16) -> Row
+    ensures { λ r. ⌜ RowIs (node (triggersOf n (now (triggers .entry)))) r ⌝ }
+{
+    let mut heads = [false; 128];
+    let mut i: u16 = 0;
+    while i < n {
+        let on = counts_at(triggers, i);
+        let head = triggers::head(triggers, i);
+        rows::with(&mut heads, head, on);
+        i += 1;
+    }
+    heads
+}
+
+// Where the edge of a body event e leaves: its conflict for a − edge, the event itself for a + edge.
+fn tail(e: u8, negative: bool) -> u8
+    ensures { λ r. ⌜ r ≡ tailOf negative e ⌝ }
+{
+    let c = basic::conflict(e);
+    if negative { c } else { e }
+}
+
+// The rows with the edges of trigger i added: one for each body event, from its tail to the head, if the tail is a node.
+fn draw_trigger(rows: &mut Rows, triggers: &[u8], i: u16, heads: &Row, negative: bool)
+    ensures { λ _. ⌜ ((n : ℕ) → Become (addedFrom (now (heads .entry)) (draws (tailOf negative) (triggersOf n (now (triggers .entry))) i)) (now (rows .entry)) (now (rows .exit))) ⌝ }
+{
+    if !counts_at(triggers, i) {
+        return;
+    }
+    let head = triggers::head(triggers, i);
+    let m = triggers::event_count(triggers, i);
+    let mut j: u8 = 0;
+    while j < m {
+        let from = tail(triggers::event(triggers, i, j), negative);
+        let on = rows::reaches(heads, from);
+        rows::link(rows, from, head, on);
+        j += 1;
+    }
+}
+
+// The rows with the edges of the first n triggers added that leave an event of `heads`: the − edges, or the + edges.
+pub fn drawn(given: Rows, triggers: &[u8], n: u16, heads: &Row, negative: bool) -> Rows
+    ensures { λ r. ⌜ Become (addedFrom (now (heads .entry)) (drawsBelow (tailOf negative) (triggersOf n (now (triggers .entry))) n)) given r ⌝ }
+{
+    let mut rows = given;
+    let mut i: u16 = 0;
+    while i < n {
+        draw_trigger(&mut rows, triggers, i, heads, negative);
+        i += 1;
+    }
+    rows
+}

@@ -1,0 +1,4 @@
+-- The step over a lent list of request records.
+pub mod Listed
+pub mod Laws
+pub mod Exact

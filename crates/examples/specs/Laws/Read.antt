@@ -1,0 +1,79 @@
+-- A day's input: where its lines are read to what is expected and the sheet has no loop, that is what the reading gives.
+-- Assumes nothing.
+use mathlib.Core.Path.{_≡_, refl, _∙_}
+use mathlib.Core.Bool.{Bool, true, _&&_, false≢true}
+use mathlib.Core.List.{List, [], _∷_}
+use Prim.Native.Nat.{ℕ}
+use lib.Dec.{eqb}
+use lib.ListN.{length}
+use borrow.Author.Tests.{eqb-true}
+use Rattle.theory.specs.Sheet.{GoodOrder}
+use Rattle.theory.specs.Graph.{NoLoop}
+use Rattle.theory.specs.LoopTest.{PAIRS, loopPlace}
+use Rattle.theory.specs.Laws.Tests.{and-left, and-right}
+use Rattle.theory.specs.Laws.OneSolution.{good-heads}
+use Rattle.theory.specs.Laws.Loop.{noloop-says}
+use Rattle.tables.specs.Layout.{PERIODIC-TABLE, TRIGGER-TABLE, sheetOf}
+use Rattle.text.specs.Lines.{lines}
+use Rattle.readings.specs.declared.Read.{Read}
+use Rattle.readings.specs.declared.Reading.the-variants.{Good}
+use Rattle.line_acts.specs.Acts.{State}
+use Rattle.lines.specs.Line.{Step, goes, refused}
+use Rattle.lines.specs.Lines.{reads}
+use Rattle.hand_out.specs.Out.{outcome, sheetRead, handed, byLoop}
+use Rattle.sheet.specs.Sheet.{start, byStep, lengthsFit, reading}
+use Rattle.examples.specs.Day.{text, sheetLines, Day, filled, sheetOfDay}
+use Rattle.examples.specs.Passes.{same, readTo, readFound}
+
+same-is : (k l : List ℕ) → same k l ≡ true → k ≡ l
+same-is [] [] h = refl
+same-is [] (b ∷ l) h = absurd (false≢true h)
+same-is (a ∷ k) [] h = absurd (false≢true h)
+same-is (a ∷ k) (b ∷ l) h = let x : a ≡ b = eqb-true a b (and-left (eqb a b) (same k l) h) in let y : k ≡ l = same-is k l (and-right (eqb a b) (same k l) h) in λ i. x i ∷ y i
+
+-- the lines were read to a state with these counts and tables
+record ReadTo (x : Step) (r : Read) (p t : List ℕ) : Type 0 where
+  found : State
+  goes-on : x ≡ goes found
+  hands : handed (found .seen) ≡ r
+  periodic : found .periodic ≡ p
+  triggers : found .triggers ≡ t
+
+read-to : (x : Step) (r : Read) (p t : List ℕ) → readTo x r p t ≡ true → ReadTo x r p t
+read-to (goes s) r p t h =
+    let a : Bool = eqb (s .seen .roles) (r .roles) in
+    let b : Bool = eqb (s .seen .periodics) (r .periodics) in
+    let c : Bool = eqb (s .seen .triggers) (r .triggers) in
+    let ab = and-left (a && b) c (and-left ((a && b) && c) _ h) in
+    let x = eqb-true _ _ (and-left a b ab) in
+    let y = eqb-true _ _ (and-right a b ab) in
+    let z = eqb-true _ _ (and-right (a && b) c (and-left ((a && b) && c) _ h)) in
+    let tables = and-right ((a && b) && c) _ h in
+    record {
+      found = s;
+      goes-on = refl;
+      hands = λ i. record { roles = x i; periodics = y i; triggers = z i };
+      periodic = same-is (s .periodic) p (and-left (same (s .periodic) p) _ tables);
+      triggers = same-is (s .triggers) t (and-right (same (s .periodic) p) _ tables);
+    }
+read-to (refused f) r p t h = absurd (false≢true h)
+
+-- a state without a loop is handed out
+loopless : (s : State) (p t : List ℕ) (r : Read) (p′ t′ : List ℕ) → loopPlace (sheetOf (r .roles) (r .periodics) (r .triggers) p′ t′) ≡ PAIRS
+    → handed (s .seen) ≡ r → s .periodic ≡ p′ → s .triggers ≡ t′ → byLoop (loopPlace (sheetRead s)) s p t ≡ outcome (Good r) p′ t′
+unfolding byLoop
+loopless s p t r p′ t′ k h x y =
+    let z : loopPlace (sheetRead s) ≡ PAIRS = (λ i. loopPlace (sheetOf (h i .roles) (h i .periodics) (h i .triggers) (x i) (y i))) ∙ k in
+    rw z (λ i. outcome (Good (h i)) (x i) (y i))
+
+-- THE LAW
+pub reads-to : (d : Day) → GoodOrder (sheetOfDay d) → NoLoop (sheetOfDay d) → readFound d ≡ true
+    → reading (text (sheetLines (d .input))) (filled PERIODIC-TABLE []) (filled TRIGGER-TABLE [])
+    ≡ outcome (Good (d .read)) (filled PERIODIC-TABLE (d .periodic)) (filled TRIGGER-TABLE (d .triggers))
+unfolding readFound reading byStep
+reads-to d good nl h =
+    let fit : Bool = lengthsFit (length (text (sheetLines (d .input)))) (length (filled PERIODIC-TABLE [])) (length (filled TRIGGER-TABLE [])) in
+    let r = read-to (reads (goes start) (lines (text (sheetLines (d .input))))) (d .read) (filled PERIODIC-TABLE (d .periodic)) (filled TRIGGER-TABLE (d .triggers)) (and-right fit _ h) in
+    rw (and-left fit _ h, r .goes-on)
+    (loopless (r .found) (filled PERIODIC-TABLE []) (filled TRIGGER-TABLE []) (d .read) (filled PERIODIC-TABLE (d .periodic)) (filled TRIGGER-TABLE (d .triggers))
+    (noloop-says (sheetOfDay d) (good-heads (sheetOfDay d) good) .1 nl) (r .hands) (r .periodic) (r .triggers))

@@ -1,0 +1,61 @@
+-- Laws of the end of a reading: what the loop test's verdict makes of what was read.
+-- Assumes nothing.
+use mathlib.Core.Path.{_≡_, refl, sym, ap, _∙_}
+use mathlib.Core.Logic.{⊎-elim}
+use mathlib.Core.Bool.{true, false}
+use mathlib.Core.List.{List}
+use Prim.Native.Nat.{ℕ}
+use native.Mathlib.Omega.{arith}
+use lib.Dec.{ltb}
+use Rattle.theory.specs.LoopTest.{PAIRS, loopPlace}
+use Rattle.theory.specs.Laws.Tests.{test}
+use Rattle.theory.specs.Laws.Loop.{loop-place-same}
+use Rattle.answers.specs.declared.Refusal.{Refusal}
+use Rattle.answers.specs.declared.Name.the-variants.{Loop}
+use Rattle.answers.specs.declared.Verdict.{Verdict}
+use Rattle.answers.specs.declared.Verdict.the-variants.{Pass, Refuse}
+use Rattle.tables.specs.Layout.{sheetOf, triggersOf}
+use Rattle.loops.specs.Tested.{foundAt}
+use Rattle.judge.specs.Judged.{loopVerdict}
+use Rattle.judge.specs.Laws.Found.{found-place, found-none}
+use Rattle.line_tests.specs.declared.Seen.{Seen}
+use Rattle.line_acts.specs.Acts.{State, state}
+use Rattle.readings.specs.declared.Reading.the-variants.{Good, Bad}
+use Rattle.hand_out.specs.Out.{Outcome, outcome, sheetRead, handed, byLoop, afterLines}
+
+-- the test looks at the triggers alone
+read-loop : (s : Seen) (per trg : List ℕ) → loopPlace (sheetRead (state s per trg)) ≡ loopPlace (triggersOf (s .triggers) trg)
+unfolding sheetOf
+read-loop s per trg = loop-place-same (sheetRead (state s per trg)) (triggersOf (s .triggers) trg) refl refl
+
+-- by the place that the loop test finds
+module _ (s : State) (p t : List ℕ) (k : ℕ) where
+  loop-passes : loopVerdict (foundAt k) ≡ Pass → byLoop k s p t ≡ outcome (Good (handed (s .seen))) (s .periodic) (s .triggers)
+  unfolding byLoop
+  loop-passes e =
+      ⊎-elim
+      (λ (h : ltb k PAIRS ≡ true). let g = found-place k h in absurd (let z : _≡_ {A = ℕ} 0 1 = cc in omega arith))
+      (λ (h : ltb k PAIRS ≡ false). rw h)
+      (test (ltb k PAIRS))
+
+  loop-refuses : (r : Refusal) → loopVerdict (foundAt k) ≡ Refuse r → byLoop k s p t ≡ outcome (Bad r) p t
+  unfolding byLoop
+  loop-refuses r e =
+      ⊎-elim
+      (λ (h : ltb k PAIRS ≡ true).
+      let g = found-place k h in
+      let q : _≡_ {A = Refusal} (record { name = Loop; place = k }) r = cc in
+      rw h (ap (λ (x : Refusal). outcome (Bad x) p t) q))
+      (λ (h : ltb k PAIRS ≡ false). let g = found-none k h in absurd (let z : _≡_ {A = ℕ} 0 1 = cc in omega arith))
+      (test (ltb k PAIRS))
+
+-- by the verdict on the table that was read
+module _ (s : Seen) (per trg p t : List ℕ) (v : Verdict) (is : v ≡ loopVerdict (foundAt (loopPlace (triggersOf (s .triggers) trg)))) where
+  moved : v ≡ loopVerdict (foundAt (loopPlace (sheetRead (state s per trg))))
+  moved = is ∙ ap (λ (k : ℕ). loopVerdict (foundAt k)) (sym (read-loop s per trg))
+
+  pub passed-out : v ≡ Pass → outcome (Good (handed s)) per trg ≡ afterLines (state s per trg) p t
+  passed-out e = sym (loop-passes (state s per trg) p t _ (sym moved ∙ e))
+
+  pub refused-out : (r : Refusal) → v ≡ Refuse r → outcome (Bad r) p t ≡ afterLines (state s per trg) p t
+  refused-out r e = sym (loop-refuses (state s per trg) p t _ r (sym moved ∙ e))

@@ -1,0 +1,70 @@
+-- Laws of the whole answer by the verdict on the rows, and of its part that the loop test gives.
+-- Assumes nothing.
+use mathlib.Core.Path.{_≡_, refl, sym, ap, ap₂, _∙_}
+use mathlib.Core.Bool.{cond}
+use mathlib.Core.List.{List}
+use Prim.Native.Nat.{ℕ}
+use lib.Dec.{ltb}
+use lib.ListN.{replicate}
+use Rattle.theory.specs.Numbers.{EVENTS}
+use Rattle.theory.specs.Sheet.{Sheet}
+use Rattle.theory.specs.LoopTest.{PAIRS}
+use Rattle.theory.specs.Laws.Loop.{loop-place-same, level-same}
+use Rattle.answers.specs.declared.Name.the-variants.{Loop}
+use Rattle.answers.specs.declared.Refusal.{Refusal}
+use Rattle.answers.specs.declared.Verdict.{Verdict}
+use Rattle.answers.specs.declared.Verdict.the-variants.{Pass, Refuse}
+use Rattle.tables.specs.Layout.{sheetOf, triggersOf}
+use Rattle.loops.specs.Tested.{tabulate, tested}
+use Rattle.loops.specs.declared.Tested.{Tested}
+use Rattle.row_judge.specs.Judge.{refuse, andThen, judgeRows, judgeLoop, judgeTables}
+use Rattle.judge.specs.declared.Judged.{Judged}
+use Rattle.judge.specs.Judged.{levelsAfter, judged, loopVerdict, loopJudged}
+use Rattle.judge.specs.Laws.Found.{loop-verdict-is}
+
+-- what the loop test answers, with its verdict
+pub loop-judged-is : (sh : Sheet) (v : Verdict) (t : Tested) → t ≡ tested sh → v ≡ loopVerdict (t .found) → _≡_ {A = Judged} (record { verdict = v; levels = t .levels }) (loopJudged sh)
+unfolding loopJudged tested
+loop-judged-is sh v t e q =
+    let x : v ≡ judgeLoop sh = q ∙ ap (λ (t : Tested). loopVerdict (t .found)) e ∙ loop-verdict-is sh in
+    ap₂ (λ (v : Verdict) (l : List ℕ). record { verdict = v; levels = l }) x (ap (λ (t : Tested). t .levels) e)
+
+-- ---- by the verdict on the rows
+
+module _ (sh : Sheet) where
+  pub tables-refused : (r : Refusal) → judgeRows sh ≡ Refuse r → judgeTables sh ≡ Refuse r
+  unfolding judgeTables andThen
+  tables-refused r e = rw e refl
+
+  pub tables-loop : judgeRows sh ≡ Pass → judgeTables sh ≡ judgeLoop sh
+  unfolding judgeTables andThen
+  tables-loop e = rw e refl
+
+  judged-refused : (r : Refusal) → judgeRows sh ≡ Refuse r → judged sh ≡ record { verdict = Refuse r; levels = replicate EVENTS 0 }
+  unfolding judged levelsAfter
+  judged-refused r e = rw (tables-refused r e, e) refl
+
+  pub judged-loop : judgeRows sh ≡ Pass → judged sh ≡ loopJudged sh
+  unfolding judged levelsAfter loopJudged
+  judged-loop e = rw (tables-loop e, e) refl
+
+-- ---- of tables, where the loop test looks at the triggers alone
+
+module _ (roleCount p n : ℕ) (periodics triggers : List ℕ) where
+  abbrev tables : Sheet
+  tables = sheetOf roleCount p n periodics triggers
+
+  loop-judged-same : loopJudged (triggersOf n triggers) ≡ loopJudged tables
+  unfolding loopJudged judgeLoop sheetOf
+  loop-judged-same =
+      ap₂
+      (λ (k : ℕ) (f : ℕ → ℕ). record { verdict = cond (ltb k PAIRS) (refuse Loop k) Pass; levels = tabulate EVENTS f })
+      (loop-place-same (triggersOf n triggers) tables refl refl)
+      (level-same (triggersOf n triggers) tables refl refl)
+
+  module _ (v : Verdict) (e : v ≡ judgeRows tables) where
+    pub rows-refused : (r : Refusal) → v ≡ Refuse r → record { verdict = Refuse r; levels = replicate EVENTS 0 } ≡ judged tables
+    rows-refused r f = sym (judged-refused tables r (sym e ∙ f))
+
+    pub rows-passed : v ≡ Pass → (r : Judged) → r ≡ loopJudged (triggersOf n triggers) → r ≡ judged tables
+    rows-passed f r g = g ∙ loop-judged-same ∙ sym (judged-loop tables (sym e ∙ f))

@@ -1,0 +1,3 @@
+-- The keys of the triggers.
+pub mod Keys
+pub mod Exact

@@ -1,0 +1,4 @@
+-- The tests of a line, in their order.
+pub mod Judge
+pub mod Laws
+pub mod Exact

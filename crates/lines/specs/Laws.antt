@@ -1,0 +1,3 @@
+-- What is proved of the lines.
+pub mod Took
+pub mod Lines

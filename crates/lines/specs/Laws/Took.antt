@@ -1,0 +1,22 @@
+-- What the code hands back of a line or of all of them, as the definitions say it.
+-- Assumes nothing.
+use mathlib.Core.Path.{_≡_, sym, ap, _∙_}
+use mathlib.Core.List.{List}
+use Prim.Native.Nat.{ℕ}
+use Rattle.answers.specs.declared.Refusal.{Refusal}
+use Rattle.line_tests.specs.declared.Seen.{Seen}
+use Rattle.line_acts.specs.Acts.{state}
+use Rattle.lines.specs.declared.Taken.{Taken}
+use Rattle.lines.specs.declared.Taken.the-variants.{Goes, Refused}
+use Rattle.lines.specs.Line.{Step, goes, refused}
+
+abbrev pub took : Taken → List ℕ → List ℕ → Step
+took (Goes s) p t = goes (state s p t)
+took (Refused r) p t = refused r
+
+-- what the lines made, by what came back
+pub went : (w : Taken) (p t : List ℕ) (x : Step) (s : Seen) → took w p t ≡ x → w ≡ Goes s → goes (state s p t) ≡ x
+went w p t x s e h = sym (ap (λ (v : Taken). took v p t) h) ∙ e
+
+pub stopped : (w : Taken) (p t : List ℕ) (x : Step) (r : Refusal) → took w p t ≡ x → w ≡ Refused r → refused r ≡ x
+stopped w p t x r e h = sym (ap (λ (v : Taken). took v p t) h) ∙ e

@@ -1,0 +1,23 @@
+-- One line: its tests, and what it does to what was read so far.
+-- Assumes nothing.
+use mathlib.Core.List.{List}
+use Prim.Native.Nat.{ℕ, _+_}
+use Rattle.answers.specs.declared.Refusal.{Refusal}
+use Rattle.answers.specs.declared.Verdict.{Verdict}
+use Rattle.answers.specs.declared.Verdict.the-variants.{Pass, Refuse}
+use Rattle.frames.specs.Frame.{bytesOf}
+use Rattle.line_tests.specs.Judge.{judgeLine}
+use Rattle.line_acts.specs.Acts.{State, after}
+
+-- a line goes on with a state, or is refused
+pub data Step : Type 0 where
+  goes : State → Step
+  refused : Refusal → Step
+
+unfoldable pub byVerdict : Verdict → State → List ℕ → Step
+byVerdict Pass s f = goes (after s f)
+byVerdict (Refuse r) s f = refused r
+
+-- THE LINE: its tests, at the line after those that were read, and what it does
+unfoldable pub lineStep : State → List ℕ → Step
+lineStep s l = byVerdict (judgeLine (s .seen .line + 1) (s .seen) l) s (bytesOf l)

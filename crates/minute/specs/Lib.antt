@@ -1,0 +1,2 @@
+-- The instant's own work: the givens, the solution, what waits, the roles after.
+pub mod Minute

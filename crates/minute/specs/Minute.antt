@@ -1,0 +1,32 @@
+-- The instant's own work, part after part, as the code does it.
+-- Assumes nothing.
+use mathlib.Core.Path.{_≡_}
+use mathlib.Core.List.{List}
+use Prim.Native.Nat.{ℕ, _+_, _^_, _<_}
+use Rattle.theory.specs.Numbers.{ROLES}
+use Rattle.theory.specs.Events.{Events, Roles}
+use Rattle.tables.specs.Layout.{triggerAt}
+use Rattle.tables.specs.Buffers.{rolesOf, eventsOf}
+use Rattle.tables.specs.Asked.{Asked}
+use Rattle.masks.specs.Joins.{joins}
+use Rattle.due.specs.Due.{dueAt}
+use Rattle.waiting.specs.Waiting.{copied, cleared, triggerEntry}
+use Rattle.after.specs.After.{rolesBelow}
+use Rattle.requests.specs.Requests.{givenEntry, waitEntry}
+use Rattle.solver.specs.Solved.{Solved}
+
+-- the events buffer before it is solved: the row of t, then the due events of the first n periodic rows, then the requests of delay 0
+abbrev pub filled : List ℕ → List ℕ → List ℕ → ℕ → Asked → ℕ → List ℕ
+filled events waiting periodics n q t = joins (joins (copied events waiting t) n (dueAt periodics t)) (q .count) (λ k. givenEntry (q .request k))
+
+-- the waiting buffer after the instant: the row of t cleared, then the requests with a delay, then the heads of the first n triggers with a delay
+abbrev pub refilled : List ℕ → Events → List ℕ → ℕ → Asked → Roles → ℕ → List ℕ
+refilled waiting S triggers n q ST t = joins (joins (cleared waiting t) (q .count) (λ k. waitEntry t (q .request k))) n (λ i. triggerEntry ST S t (triggerAt triggers i))
+
+-- From the instant t, the roles, the waiting buffer w and the events buffer l to t′, roles′, w′ and l′.
+pub record Acted (periodicCount triggerCount : ℕ) (periodics triggers : List ℕ) (q : Asked) (levels : List ℕ) (t roles : ℕ) (w l : List ℕ) (t′ roles′ : ℕ) (w′ l′ : List ℕ) : Type 0 where
+  pub wide : roles < 2 ^ 64
+  pub solved : Solved levels triggers triggerCount roles (filled l w periodics periodicCount q t) l′
+  pub waits : w′ ≡ refilled w (eventsOf l′) triggers triggerCount q (rolesOf roles) t
+  pub after : roles′ ≡ rolesBelow (rolesOf roles) (eventsOf l′) ROLES
+  pub next : t′ ≡ t + 1

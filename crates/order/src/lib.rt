@@ -1,0 +1,63 @@
+ghost use mathlib.Core.Path.{_≡_};
+ghost use Rattle.row_judge.specs.Judge.{refuse, andThen};
+ghost use Rattle.order.specs.Order.{exactLengths, fewer, judgeFirst};
+use answers::Name;
+use answers::Refusal;
+use answers::Verdict;
+use basic::both;
+
+// The number of requests, of which those over 32 are not told apart.
+pub fn fewer(n: usize) -> u16
+    ensures { λ r. ⌜ r ≡ fewer n ⌝ }
+{
+    if n <= 32 {
+        return n as u16;
+    }
+    33
+}
+
+// LENGTH is not given: the tables and the buffers have their exact lengths.
+pub fn lengths_fit(periodics: usize, triggers: usize, waiting: usize, events: usize) -> bool
+    ensures { λ r. ⌜ r ≡ exactLengths periodics triggers waiting events ⌝ }
+{
+    both(
+        both(periodics == 2048, triggers == 3328),
+        both(waiting == 7808, events == 128),
+    )
+}
+
+// A refusal that has no place.
+fn refusal(name: Name) -> Verdict
+    ensures { λ r. ⌜ r ≡ refuse name 0 ⌝ }
+{
+    Verdict::Refuse(Refusal {
+        name: name,
+        place: 0,
+    })
+}
+
+// LENGTH, LAST, TOO MANY of requests.
+pub fn judge_first(fit: bool, t: u32, n: u16) -> Verdict
+    ensures { λ r. ⌜ r ≡ judgeFirst fit t n ⌝ }
+{
+    if !fit {
+        return refusal(Name::Length);
+    }
+    if 16777215 < t {
+        return refusal(Name::Last);
+    }
+    if 32 < n {
+        return refusal(Name::TooMany);
+    }
+    Verdict::Pass
+}
+
+// A later test is asked only where those before it pass.
+pub fn and_then(first: Verdict, later: Verdict) -> Verdict
+    ensures { λ r. ⌜ r ≡ andThen first later ⌝ }
+{
+    match first {
+        Verdict::Pass => later,
+        Verdict::Refuse(r) => Verdict::Refuse(r),
+    }
+}

@@ -1,0 +1,52 @@
+ghost use Prim.Native.Nat.{_<_};
+ghost use Rattle.theory.specs.Numbers.{EVENTS};
+ghost use Rattle.theory.specs.LoopTest.{through};
+ghost use Rattle.rows.specs.Rows.{Become};
+ghost use Rattle.reach.specs.Reach.{takenOver, via};
+use rows::Rows;
+
+// The row of a, where it reaches k, takes over what the row of k reaches.
+fn take_over(rows: &mut Rows, a: u8, k: u8)
+    requires { ⌜ (a < EVENTS) × (k < EVENTS) ⌝ }
+    ensures { λ _. ⌜ Become (takenOver a k) (now (rows .entry)) (now (rows .exit)) ⌝ }
+{
+    let i = basic::index(a);
+    let j = basic::index(k);
+    if rows::leads(rows, a, k) {
+        let x = rows[i];
+        let y = rows[j];
+        let z = rows::joined(x, y);
+        rows[i] = z;
+    }
+}
+
+// Every event reaches itself, by zero edges.
+fn own(rows: &mut Rows)
+    ensures { λ _. ⌜ Become (λ E. through E 0) (now (rows .entry)) (now (rows .exit)) ⌝ }
+{
+    for a in 0..128 {
+        rows::link(rows, a, a, true);
+    }
+}
+
+// Each row that reaches k takes over what k reaches.
+fn phase(rows: &mut Rows, k: u8)
+    requires { ⌜ k < EVENTS ⌝ }
+    ensures { λ _. ⌜ Become (via k) (now (rows .entry)) (now (rows .exit)) ⌝ }
+{
+    for a in 0..128 {
+        take_over(rows, a, k);
+    }
+}
+
+// The rows closed under edges: for each event the row of events that it reaches.
+pub fn closed(edges: Rows) -> Rows
+    ensures { λ r. ⌜ Become (λ E. through E EVENTS) edges r ⌝ }
+{
+    let mut rows = edges;
+    own(&mut rows);
+    for k in 0..128 {
+        phase(&mut rows, k);
+    }
+    rows
+}

@@ -1,0 +1,3 @@
+-- What the reader answers.
+pub mod Readings
+pub mod Exact

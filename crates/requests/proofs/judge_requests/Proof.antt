@@ -1,0 +1,68 @@
+-- `requests::judge_requests` meets its contract. The loop's invariant: the requests before k are within their limits.
+-- Assumes nothing.
+use mathlib.Core.Path.{ap, _∙_}
+use Prim.Native.Nat.{_-_, _≤_}
+use native.Mathlib.Omega.{arith}
+use Rattle.tables.specs.Asked.{flat}
+use Rattle.requests.specs.Requests.{fits}
+use Rattle.requests.specs.Laws.{Before, before-next, outside-here, outside-none}
+use borrow.Author.Needs.{needs}
+use Rattle.requests.proofs.judge_requests.Statement.{statement}
+use Rattle.requests.proofs.judge_requests.Tie as tie
+
+abbrev Inv-loop : tie.InvT-loop
+Inv-loop roles asked n k₀ k = (k ≤ n) × Before roles (flat asked n) k
+
+abbrev μ-loop : tie.MeasureT-loop
+μ-loop roles asked n k₀ k = n - k
+
+loop-holds : tie.Need-loop-holds Inv-loop μ-loop
+loop-holds c = (search needs, λ i l. absurd (omega arith))
+
+request-at-requires : tie.Need-request-at-requires Inv-loop μ-loop
+request-at-requires c κs = search needs
+
+request-fits-requires : tie.Need-request-fits-requires Inv-loop μ-loop
+request-fits-requires c κs = search needs
+
+cast-t9 : tie.Need-cast-t9 Inv-loop μ-loop
+cast-t9 c = search needs
+
+returns : tie.Need-returns Inv-loop μ-loop
+returns c =
+    let r = c .before .before in
+    let l = r .before .before .loop in
+    let a = r .before .before .before .before .args in
+    outside-here (a .roles) (flat (a .asked .now) (a .n)) (l .k) _ (c .before .request-fits .ensures ∙ ap (fits (a .roles)) (r .request-at .ensures)) (c .if1 .taken) (r .before .loop-test .taken) (l .inv .1)
+
+add-k : tie.Need-add-k Inv-loop μ-loop
+add-k c = search needs
+
+loop-less : tie.Need-loop-less Inv-loop μ-loop
+loop-less c = search needs
+
+loop-again : tie.Need-loop-again Inv-loop μ-loop
+loop-again c =
+    let r = c .before .before in
+    let l = r .before .before .loop in
+    let a = r .before .before .before .before .args in
+    (search needs, before-next (a .roles) (flat (a .asked .now) (a .n)) (l .k) _ (c .before .request-fits .ensures ∙ ap (fits (a .roles)) (r .request-at .ensures)) (c .if1 .left) (l .inv .1))
+
+returns-2 : tie.Need-returns-2 Inv-loop μ-loop
+returns-2 c = outside-none _ _ (c .before .loop .k) (search needs) (c .before .loop .inv .1)
+
+pub judge-requests-spec : {M : Type 1} → statement M
+judge-requests-spec =
+    tie.close
+    (tie.spec
+    Inv-loop
+    μ-loop
+    loop-holds
+    request-at-requires
+    request-fits-requires
+    cast-t9
+    returns
+    add-k
+    loop-less
+    loop-again
+    returns-2)

@@ -1,0 +1,5 @@
+-- The requests of one instant.
+pub mod Requests
+pub mod Asked
+pub mod Laws
+pub mod Exact

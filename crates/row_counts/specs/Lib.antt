@@ -1,0 +1,4 @@
+-- The rows counted: TOO MANY and COUNT.
+pub mod Counts
+pub mod Laws
+pub mod Exact

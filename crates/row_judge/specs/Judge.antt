@@ -1,0 +1,80 @@
+-- The judge of lent tables, which are not trusted: TOO MANY rows; FIELD, the role count first and then the rows; LOOP (document 01, 'What comes back').
+-- Assumes nothing.
+use mathlib.Core.Bool.{Bool, not, cond, _&&_}
+use mathlib.Core.List.{List}
+use Prim.Native.Nat.{ℕ, _+_, _-_}
+use lib.Dec.{leb, ltb}
+use Rattle.theory.specs.Numbers.{ROLES, PERIODIC-ROWS, TRIGGER-ROWS}
+use Rattle.theory.specs.Below.{firstBelow}
+use Rattle.theory.specs.Sheet.{Sheet, periodicFits, triggerFits}
+use Rattle.theory.specs.LoopTest.{PAIRS, loopPlace}
+use Rattle.answers.specs.declared.Name.{Name}
+use Rattle.answers.specs.declared.Name.the-variants.{Field, TooMany, Loop}
+use Rattle.answers.specs.declared.Refusal.{Refusal}
+use Rattle.answers.specs.declared.Verdict.{Verdict}
+use Rattle.answers.specs.declared.Verdict.the-variants.{Pass, Refuse}
+use Rattle.tables.specs.Layout.{sheetOf}
+
+-- All that is lent to be read: the tables, how many rows of each are used, and the role count.
+pub record Rules : Type 0 where
+  pub roleCount : ℕ
+  pub periodicCount : ℕ
+  pub triggerCount : ℕ
+  pub periodics : List ℕ
+  pub triggers : List ℕ
+
+abbrev pub rules : ℕ → ℕ → ℕ → List ℕ → List ℕ → Rules
+rules roleCount periodicCount triggerCount periodics triggers =
+    record { roleCount = roleCount; periodicCount = periodicCount; triggerCount = triggerCount; periodics = periodics; triggers = triggers }
+
+-- the sheet that they stand for; unused rows, and the places of a trigger past its counts, are in no rule about it
+abbrev pub sheetIn : Rules → Sheet
+sheetIn R = sheetOf (R .roleCount) (R .periodicCount) (R .triggerCount) (R .periodics) (R .triggers)
+
+abbrev pub refuse : Name → ℕ → Verdict
+refuse name place = Refuse (record { name = name; place = place })
+
+-- a later test is asked only where those before it pass
+unfoldable pub andThen : Verdict → Verdict → Verdict
+andThen Pass later = later
+andThen (Refuse r) later = Refuse r
+
+-- TOO MANY is not given: neither count of rows is over its limit
+unfoldable pub fewRows : Sheet → Bool
+fewRows sh = leb (sh .periodicCount) PERIODIC-ROWS && leb (sh .triggerCount) TRIGGER-ROWS
+
+-- the role count is 1 to 64
+unfoldable pub rolesFit : Sheet → Bool
+rolesFit sh = leb 1 (sh .roleCount) && leb (sh .roleCount) ROLES
+
+-- the rows as a step counts them: the periodic rows from 0, the triggers from the periodic count on
+abbrev pub rowCount : Sheet → ℕ
+rowCount sh = sh .periodicCount + sh .triggerCount
+
+-- row k holds what it may
+unfoldable pub rowFits : Sheet → ℕ → Bool
+rowFits sh k =
+    cond (ltb k (sh .periodicCount))
+    (periodicFits (sh .roleCount) (sh .periodic k))
+    (triggerFits (sh .roleCount) (sh .trigger (k - sh .periodicCount)))
+
+-- the first row that does not; the number of rows where all do
+unfoldable pub firstUnfit : Sheet → ℕ
+firstUnfit sh = firstBelow (rowCount sh) (λ k. not (rowFits sh k))
+
+-- TOO MANY, then FIELD: of the role count at place 0, of a row at its number
+unfoldable pub judgeRows : Sheet → Verdict
+judgeRows sh =
+    cond (fewRows sh)
+    (cond (rolesFit sh)
+    (cond (ltb (firstUnfit sh) (rowCount sh)) (refuse Field (firstUnfit sh)) Pass)
+    (refuse Field 0))
+    (refuse TooMany 0)
+
+-- LOOP at its place
+unfoldable pub judgeLoop : Sheet → Verdict
+judgeLoop sh = cond (ltb (loopPlace sh) PAIRS) (refuse Loop (loopPlace sh)) Pass
+
+-- THE JUDGE of the tables
+unfoldable pub judgeTables : Sheet → Verdict
+judgeTables sh = andThen (judgeRows sh) (judgeLoop sh)

@@ -1,0 +1,44 @@
+-- Rows of events: a row, and the array of rows, one per event, as the graph that it holds. `whole` and `reaches` are all that is said of the inside of a row.
+-- Assumes nothing.
+use mathlib.Core.Path.{_≡_}
+use mathlib.Core.Bool.{Bool, false, _&&_, _||_}
+use mathlib.Core.List.{List, []}
+use Prim.Native.Nat.{ℕ, _<_}
+use lib.Dec.{eqb, ltb}
+use lib.ListN.{length, getD}
+use Rattle.theory.specs.Numbers.{EVENTS}
+use Rattle.theory.specs.Graph.{Edges}
+
+-- a truth value for each event
+abbrev pub Row : Type 0
+Row = List Bool
+
+-- the row has its truth values, one for each event
+abbrev pub whole : Row → Type 0
+whole row = length row ≡ EVENTS
+
+-- the row reaches b, which is an event
+unfoldable pub reaches : Row → ℕ → Bool
+reaches row b = ltb b EVENTS && getD row b false
+
+-- the rows as edges: a is an event and its row reaches b
+unfoldable pub edgesOf : List Row → Edges
+edgesOf rows a b = ltb a EVENTS && reaches (getD rows a []) b
+
+-- the row holds the events that pass f
+pub record RowIs (f : ℕ → Bool) (row : Row) : Type 0 where
+  pub size : whole row
+  pub says : (b : ℕ) → b < EVENTS → reaches row b ≡ f b
+
+-- the rows hold the graph E
+pub record RowsAre (E : Edges) (rows : List Row) : Type 0 where
+  pub size : length rows ≡ EVENTS
+  pub each : (a : ℕ) → a < EVENTS → RowIs (E a) (getD rows a [])
+
+-- rows that held a graph E now hold F E
+abbrev pub Become : (Edges → Edges) → List Row → List Row → Type 0
+Become F rows rows′ = (E : Edges) → RowsAre E rows → RowsAre (F E) rows′
+
+-- a graph E with the edge from a to b added, where `on`
+abbrev pub linked : Bool → ℕ → ℕ → Edges → Edges
+linked on a b E x y = E x y || (on && (eqb a x && eqb b y))

@@ -1,0 +1,34 @@
+ghost use mathlib.Core.Path.{_≡_};
+ghost use Prim.Native.Nat.{_≤_};
+ghost use lib.ListN.{length};
+ghost use Rattle.theory.specs.Numbers.{EVENTS, TRIGGER-ROWS};
+ghost use Rattle.solver.specs.Solved.{Solved};
+use keys::keys;
+use keys::next;
+use turns::settle;
+
+// The solver, key by key in rising order, on a buffer of 128 numbers and at most 256 triggers.
+fn by_keys(events: &mut [u16], levels: &[u8], triggers: &[u8], n: u16, roles: u64)
+    requires { ⌜ (length (now events) ≡ EVENTS) × (n ≤ TRIGGER-ROWS) ⌝ }
+    ensures { λ _. ⌜ Solved (now (levels .entry)) (now (triggers .entry)) n roles (now (events .entry)) (now (events .exit)) ⌝ }
+{
+    let keys = keys(triggers, levels, roles, n);
+    let mut k = next(&keys, n, 0);
+    while k < 257 {
+        settle(events, triggers, &keys, n, k);
+        k = next(&keys, n, k);
+    }
+}
+
+// The events, which are the givens, become the solution of the instant. What is no events buffer, or has more triggers than a table, is left as it is.
+pub fn solve(events: &mut [u16], levels: [u8; 128], triggers: &[u8], n: u16, roles: u64)
+    ensures { λ _. ⌜ Solved levels (now (triggers .entry)) n roles (now (events .entry)) (now (events .exit)) ⌝ }
+{
+    if events.len() != 128 {
+        return;
+    }
+    if n > 256 {
+        return;
+    }
+    by_keys(events, &levels, triggers, n, roles);
+}

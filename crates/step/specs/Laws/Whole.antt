@@ -1,0 +1,77 @@
+-- The outcome, put together from the verdicts of its parts and what was then done.
+-- Assumes nothing.
+use mathlib.Core.Path.{_≡_, refl, sym, ap, ap₂, _∙_, subst}
+use mathlib.Core.Bool.{Bool, true}
+use mathlib.Core.List.{List}
+use Prim.Native.Nat.{ℕ, _≤_}
+use Rattle.theory.specs.Numbers.{LAST-INSTANT}
+use Rattle.answers.specs.Laws.{no-pass}
+use Rattle.answers.specs.declared.Refusal.{Refusal}
+use Rattle.answers.specs.declared.Verdict.{Verdict}
+use Rattle.answers.specs.declared.Verdict.the-variants.{Pass, Refuse}
+use Rattle.tables.specs.Asked.{Asked, flat}
+use Rattle.judge.specs.declared.Judged.{Judged}
+use Rattle.row_judge.specs.Judge.{Rules, sheetIn, andThen, judgeTables}
+use Rattle.judge.specs.Judged.{judged}
+use Rattle.minute.specs.Minute.{Acted}
+use Rattle.order.specs.Order.{fewer, judgeFirst}
+use Rattle.requests.specs.Requests.{judgeRequests}
+use Rattle.step.specs.Outcome.{Lent, lengthsFit, judgeStep, Stepped, Outcome}
+use Rattle.step.specs.Parts.{Sound, Sized, Inner}
+use Rattle.step.specs.Laws.Acted.{acted}
+use Rattle.step.specs.Laws.Passes.{first-says, fewer-same, step-parts, lengths-say, verdict-is, sound}
+
+-- ---- by the tables and the requests
+
+module _ (R : Rules) (q : Asked) (before : Lent) (j : Judged) (v w : Verdict) (e : j ≡ judged (sheetIn R)) (f : w ≡ judgeRequests (R .roleCount) q) (h : v ≡ andThen (j .verdict) w) where
+  inner-verdict : v ≡ andThen (judgeTables (sheetIn R)) (judgeRequests (R .roleCount) q)
+  inner-verdict = h ∙ ap₂ andThen (verdict-is R j e) f
+
+  pub inner-passed : (after : Lent) → v ≡ Pass → Sized (before .waiting) (before .events)
+      → Acted (R .periodicCount) (R .triggerCount) (R .periodics) (R .triggers) q (j .levels) (before .instant) (before .roles) (before .waiting) (before .events) (after .instant) (after .roles) (after .waiting) (after .events)
+      → Inner R q before Pass after
+  inner-passed after p size x =
+      record {
+        judged = sym p ∙ inner-verdict;
+        refused = λ r z. no-pass r (sym z);
+        passed = λ _. acted R (j .levels) q before after size x (sound R q j v e (h ∙ ap (andThen (j .verdict)) f) p);
+      }
+
+  pub inner-refused : (r : Refusal) → v ≡ Refuse r → Inner R q before (Refuse r) before
+  inner-refused r p = record { judged = sym p ∙ inner-verdict; refused = λ _ _. refl; passed = λ z. no-pass r z }
+
+-- ---- by LENGTH, LAST and TOO MANY of requests
+
+module _ (R : Rules) (asked : List ℕ) (n : ℕ) (before : Lent) (fit : Bool) (m : ℕ) (v : Verdict)
+    (e : fit ≡ lengthsFit R before) (f : m ≡ fewer n) (h : v ≡ judgeFirst fit (before .instant) m) where
+  pub outer-ready : v ≡ Pass → (before .instant ≤ LAST-INSTANT) × Sized (before .waiting) (before .events)
+  outer-ready p =
+      let s = first-says fit (before .instant) m (sym h ∙ p) in
+      let l = lengths-say R before (sym e ∙ s .0) in
+      (s .1, (l .waiting, l .events))
+
+  outer-verdict : judgeStep R (flat asked n) before ≡ andThen v (andThen (judgeTables (sheetIn R)) (judgeRequests (R .roleCount) (flat asked n)))
+  outer-verdict =
+      step-parts R (flat asked n) before fit m e f
+      ∙ ap (λ (x : Verdict). andThen x (andThen (judgeTables (sheetIn R)) (judgeRequests (R .roleCount) (flat asked n)))) (sym h)
+
+  -- after a pass the number of requests is as it was given
+  same-number : v ≡ Pass → m ≡ n
+  same-number p = let s = first-says fit (before .instant) m (sym h ∙ p) in f ∙ fewer-same n (subst (λ (k : ℕ). k ≤ 32) f (s .2))
+
+  pub outer-passed : (u : Verdict) (after : Lent) → v ≡ Pass → Inner R (flat asked m) before u after → Outcome R (flat asked n) before u after
+  unfolding andThen
+  outer-passed u after p x =
+      let y : Inner R (flat asked n) before u after = subst (λ (k : ℕ). Inner R (flat asked k) before u after) (same-number p) x in
+      let tests : Verdict = andThen (judgeTables (sheetIn R)) (judgeRequests (R .roleCount) (flat asked n)) in
+      record {
+        judged = y .judged ∙ sym (outer-verdict ∙ ap (λ (z : Verdict). andThen z tests) p);
+        refused = y .refused;
+        passed = y .passed;
+      }
+
+  pub outer-refused : (r : Refusal) → v ≡ Refuse r → Outcome R (flat asked n) before (Refuse r) before
+  unfolding andThen
+  outer-refused r p =
+      let tests : Verdict = andThen (judgeTables (sheetIn R)) (judgeRequests (R .roleCount) (flat asked n)) in
+      record { judged = sym (outer-verdict ∙ ap (λ (z : Verdict). andThen z tests) p); refused = λ _ _. refl; passed = λ z. no-pass r z }

@@ -1,0 +1,20 @@
+-- A line's characters: FRAME.
+-- Assumes nothing.
+use mathlib.Core.Bool.{Bool, true, false, cond}
+use mathlib.Core.List.{List, [], _∷_}
+use Prim.Native.Nat.{ℕ, suc, _%_}
+use lib.Dec.{ltb, leb, eqb}
+use lib.ListN.{length}
+
+-- an upper-case hexadecimal digit: 0 to 9 are the characters 48 to 57, A to F are 65 to 70
+unfoldable pub isDigit : ℕ → Bool
+isDigit c = cond (ltb c 48) false (cond (leb c 57) true (cond (ltb c 65) false (leb c 70)))
+
+-- where the first character stands that is no digit; the line's length where there is none
+abbrev pub firstBad : List ℕ → ℕ
+firstBad [] = 0
+firstBad (c ∷ l) = cond (isDigit c) (suc (firstBad l)) 0
+
+-- FRAME is not given for a line's characters: it is not empty, each is a digit, and their count is even (the final 0A is looked for where the lines are read)
+unfoldable pub framed : List ℕ → Bool
+framed l = cond (eqb (length l) 0) false (cond (eqb (firstBad l) (length l)) (eqb (length l % 2) 0) false)

@@ -1,0 +1,2 @@
+-- What a trigger may hold: the definitions are those of `theory`'s `Sheet`.
+pub mod Exact

@@ -1,0 +1,16 @@
+-- `triggers::priority` meets its contract: it is byte 11 of the row.
+-- Assumes nothing.
+use Rattle.tables.specs.Layout.{triggerFrom}
+use borrow.Author.Needs.{needs}
+use Rattle.triggers.proofs.priority.Statement.{statement}
+use Rattle.triggers.proofs.priority.Tie as tie
+
+trigger-byte-requires : tie.Need-trigger-byte-requires
+trigger-byte-requires c κs = search needs
+
+returns : tie.Need-returns
+unfolding triggerFrom
+returns c = c .trigger-byte .ensures
+
+pub priority-spec : {M : Type 1} → statement M
+priority-spec = tie.close (tie.spec trigger-byte-requires returns)

@@ -1,0 +1,54 @@
+-- `turns::settle` meets its contract. The loop's invariant: the walks so far keep the solver's invariant. It ends, since a walk that is not the last has added a member.
+-- Assumes nothing.
+use mathlib.Core.Path.{_≡_, refl, _∙_}
+use Prim.Native.Nat.{_-_}
+use lib.ListN.{length}
+use borrow.Author.Tests.{not-true, not-false}
+use Rattle.theory.specs.Laws.Stage.{MEMBERS, sizeOf, size-most, Keeps}
+use Rattle.tables.specs.Layout.{triggersOf}
+use Rattle.tables.specs.Buffers.{eventsOf}
+use Rattle.keys.specs.Keys.{keyAt}
+use borrow.Author.Needs.{needs}
+use native.Mathlib.Omega.{arith}
+use Rattle.turns.proofs.settle.Statement.{statement}
+use Rattle.turns.proofs.settle.Tie as tie
+
+abbrev Inv-loop : tie.InvT-loop
+Inv-loop events₀ triggers keys n k events = (length events ≡ length events₀) × Keeps (triggersOf n triggers) (keyAt keys) k (eventsOf events₀) (eventsOf events)
+
+abbrev μ-loop : tie.MeasureT-loop
+μ-loop events₀ triggers keys n k events = MEMBERS - sizeOf (eventsOf events)
+
+loop-holds : tie.Need-loop-holds Inv-loop μ-loop
+loop-holds c = (refl, λ on G level st ks d. d)
+
+walk-requires : tie.Need-walk-requires Inv-loop μ-loop
+walk-requires c κs =
+    let d = c .before in
+    let p = d .before .before .before .before .pre in
+    (d .loop .inv .0 ∙ p .0, p .1)
+
+same-length : tie.Need-same-length Inv-loop μ-loop
+same-length c = search needs
+
+returns : tie.Need-returns Inv-loop μ-loop
+returns c =
+    let w = c .before .before .before in
+    let i = w .before .before .loop .inv in
+    (λ on G level st ks d. w .walk .ensures .keeps on G level st ks (i .1 on G level st ks d), w .walk .ensures .settled (not-true _ (c .if1 .taken)))
+
+loop-less : tie.Need-loop-less Inv-loop μ-loop
+loop-less c =
+    let w = c .before .before .before in
+    omega (arith, w .walk .ensures .more (not-false _ (c .if1 .left)), size-most (eventsOf (w .walk .last .0)))
+
+loop-again : tie.Need-loop-again Inv-loop μ-loop
+loop-again c =
+    let w = c .before .before .before in
+    let i = w .before .before .loop .inv in
+    (w .walk .kept .0 ∙ i .0, λ on G level st ks d. w .walk .ensures .keeps on G level st ks (i .1 on G level st ks d))
+
+pub settle-spec : {M : Type 1} → statement M
+settle-spec =
+    tie.close
+    (tie.spec Inv-loop μ-loop loop-holds walk-requires same-length returns loop-less loop-again)

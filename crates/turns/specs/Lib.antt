@@ -1,0 +1,3 @@
+-- The turns of the triggers of one key.
+pub mod Turns
+pub mod Laws

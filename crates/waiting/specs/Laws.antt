@@ -1,0 +1,65 @@
+-- What the rows hold once they are copied or cleared, and what joins them.
+-- Assumes nothing.
+use mathlib.Core.Path.{_≡_, refl, sym, ap, _∙_}
+use mathlib.Core.Logic.{⊎-elim, by-cases}
+use mathlib.Core.Bool.{Bool, true, false, not, _&&_}
+use mathlib.Core.List.{List}
+use Prim.Native.Nat.{ℕ, _+_, _*_, _≤_, _<_}
+use native.Mathlib.Decide.{decLt}
+use native.Mathlib.Omega.{arith}
+use lib.Dec.{ltb, eqb}
+use lib.ListN.{length, getD}
+use borrow.Author.Tests.{lt-ltb, le-ltb, eq-eqb, ne-eqb}
+use Rattle.theory.specs.Numbers.{EVENTS, WAITING-ROWS, WAITING-NUMBERS}
+use Rattle.theory.specs.Events.{Events, Roles}
+use Rattle.theory.specs.Sheet.{Trigger}
+use Rattle.theory.specs.Instant.{allows, met}
+use Rattle.theory.specs.Box.{row}
+use Rattle.theory.specs.Laws.Tests.{test}
+use Rattle.tables.specs.Buffers.{bit, eventsOf, waitingOf}
+use Rattle.masks.specs.Joins.{Entry, writes}
+use Rattle.masks.specs.Laws.Bits.{bit-none}
+use Rattle.masks.specs.Laws.Joins.{writes-in, writes-out}
+use Rattle.waiting.specs.Waiting.{placeOf, copied, cleared, triggerEntry}
+
+-- the events buffer holds what waits for t
+pub copied-is : (l w : List ℕ) (t : ℕ) → length l ≡ EVENTS → (e p : ℕ) → eventsOf (copied l w t) e p ≡ waitingOf w (row t) e p
+copied-is l w t h e p =
+    by-cases (decLt e EVENTS)
+    (λ (k : e < EVENTS).
+    let z : e ≡ 0 + e = omega arith in
+    ap (λ (i : ℕ). ltb e EVENTS && bit (getD (copied l w t) i 0) p) z
+    ∙ ap (λ (m : ℕ). ltb e EVENTS && bit m p) (writes-in l 0 EVENTS (λ i. getD w (placeOf t i) 0) e k (omega arith)))
+    (λ (k : ¬ (e < EVENTS)). rw (le-ltb e EVENTS (omega arith)) refl)
+
+-- row t holds nothing, and the others what they held
+pub cleared-is : (w : List ℕ) (t : ℕ) → length w ≡ WAITING-NUMBERS → (k e p : ℕ) → waitingOf (cleared w t) k e p ≡ (not (eqb k (row t)) && waitingOf w k e p)
+cleared-is w t h k e p =
+    by-cases (decLt e EVENTS)
+    (λ (l : e < EVENTS).
+    ⊎-elim
+    (λ (s : eqb k (row t) ≡ true).
+    let z : k ≡ row t = borrow.Author.Tests.eqb-true k (row t) s in
+    rw (s, lt-ltb e EVENTS l, z) (ap (λ (m : ℕ). bit m p) (writes-in w (EVENTS * row t) EVENTS (λ i. 0) e l (omega arith)) ∙ bit-none p))
+    (λ (s : eqb k (row t) ≡ false).
+    let z : ¬ (k ≡ row t) = borrow.Author.Tests.eqb-false k (row t) s in
+    rw (s, lt-ltb e EVENTS l) (ap (λ (m : ℕ). bit m p) (writes-out w (EVENTS * row t) EVENTS (λ i. 0) (EVENTS * k + e) (λ j m q. z (omega arith)))))
+    (test (eqb k (row t))))
+    (λ (l : ¬ (e < EVENTS)). rw (le-ltb e EVENTS (omega arith)) (none (not (eqb k (row t)))))
+  where
+    none : (b : Bool) → false ≡ (b && false)
+    none true = refl
+    none false = refl
+
+-- a trigger's entry, made of what the code read
+pub trigger-entry : (ST : Roles) (S : Events) (t : ℕ) (g : Trigger) (on : Bool) (at d e p : ℕ)
+    → on ≡ (ltb 0 (g .delay) && (allows ST g && met S S g)) → at ≡ placeOf (t + d) e → d ≡ g .delay → e ≡ g .head → p ≡ g .priority
+    → _≡_ {A = Entry} (record { on = on; at = at; priority = p }) (triggerEntry ST S t g)
+trigger-entry ST S t g on at d e p o a h k m = rw (o, a, h, k, m) refl
+
+-- whether a trigger has a delay
+pub delay-none : (d x : ℕ) → d ≡ x → d ≡ 0 → ltb 0 x ≡ false
+delay-none d x e h = le-ltb 0 x (omega arith)
+
+pub delay-some : (d x : ℕ) → d ≡ x → ¬ (d ≡ 0) → ltb 0 x ≡ true
+delay-some d x e h = lt-ltb 0 x (omega arith)

@@ -1,0 +1,75 @@
+ghost use mathlib.Core.Path.{_≡_};
+ghost use mathlib.Core.Bool.{_&&_};
+ghost use Prim.Native.Nat.{_+_};
+ghost use lib.Dec.{ltb};
+ghost use Rattle.theory.specs.Instant.{allows, met};
+ghost use Rattle.tables.specs.Layout.{triggerAt};
+ghost use Rattle.tables.specs.Buffers.{rolesOf, eventsOf};
+ghost use Rattle.masks.specs.Joins.{joins};
+ghost use Rattle.waiting.specs.Waiting.{placeOf, copied, cleared, triggerEntry};
+use basic::index;
+use basic::long;
+use basic::wide;
+use masks::join_where;
+use masks::number;
+use masks::store;
+
+// Where event e stands in the row of d instants after t.
+pub fn place(t: u32, d: u8, e: u8) -> usize
+    ensures { λ r. ⌜ r ≡ placeOf (t + d) e ⌝ }
+{
+    let row = (long(t) + long(wide(d))) % 61;
+    128 * (row as usize) + index(e)
+}
+
+// The row of the instant t is copied over the events buffer.
+pub fn copy_row(events: &mut [u16], waiting: &[u16], t: u32)
+    ensures { λ _. ⌜ now (events .exit) ≡ copied (now (events .entry)) (now (waiting .entry)) t ⌝ }
+{
+    for e in 0..128 {
+        let mask = number(waiting, place(t, 0, e));
+        store(events, index(e), mask);
+    }
+}
+
+// The row of the instant t is cleared.
+pub fn clear_row(waiting: &mut [u16], t: u32)
+    ensures { λ _. ⌜ now (waiting .exit) ≡ cleared (now (waiting .entry)) t ⌝ }
+{
+    for e in 0..128 {
+        store(waiting, place(t, 0, e), 0);
+    }
+}
+
+// The head of trigger i comes to wait: it has a delay, its conditions hold and its body is met.
+fn comes_to_wait(events: &[u16], triggers: &[u8], i: u16, roles: u64) -> bool
+    ensures { λ r. ⌜ r ≡ (ltb 0 (triggerAt (now (triggers .entry)) i .delay) && (allows (rolesOf roles) (triggerAt (now (triggers .entry)) i) && met (eventsOf (now (events .entry))) (eventsOf (now (events .entry))) (triggerAt (now (triggers .entry)) i))) ⌝ }
+{
+    if triggers::delay(triggers, i) == 0 {
+        return false;
+    }
+    if !bodies::allows(triggers, i, roles) {
+        return false;
+    }
+    bodies::met(events, triggers, i)
+}
+
+// The heads of the first n triggers that come to wait join the waiting buffer.
+pub fn wait_triggers(
+    waiting: &mut [u16],
+    events: &[u16],
+    triggers: &[u8],
+    n: u16,
+    roles: u64,
+    t: u32,
+)
+    ensures { λ _. ⌜ now (waiting .exit) ≡ joins (now (waiting .entry)) n (λ i. triggerEntry (rolesOf roles) (eventsOf (now (events .entry))) t (triggerAt (now (triggers .entry)) i)) ⌝ }
+{
+    let mut i: u16 = 0;
+    while i < n {
+        let on = comes_to_wait(events, triggers, i, roles);
+        let at = place(t, triggers::delay(triggers, i), triggers::head(triggers, i));
+        join_where(waiting, on, at, triggers::priority(triggers, i));
+        i += 1;
+    }
+}
