@@ -41,12 +41,12 @@ module _ (sh : Sheet) where
   tables-loop e = rw e refl
 
   judged-refused : (r : Refusal) → judgeRows sh ≡ Refuse r → judged sh ≡ record { verdict = Refuse r; levels = replicate EVENTS 0 }
-  unfolding judged levelsAfter
-  judged-refused r e = rw (tables-refused r e, e) refl
+  unfolding judged levelsAfter judgeTables andThen
+  judged-refused r e = rw e refl
 
   pub judged-loop : judgeRows sh ≡ Pass → judged sh ≡ loopJudged sh
-  unfolding judged levelsAfter loopJudged
-  judged-loop e = rw (tables-loop e, e) refl
+  unfolding judged levelsAfter loopJudged judgeTables andThen
+  judged-loop e = rw e refl
 
 -- ---- of tables, where the loop test looks at the triggers alone
 
