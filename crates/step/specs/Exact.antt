@@ -1,28 +1,39 @@
 -- The contract of the step leaves one possible answer and one possible content of all that is lent; its events are the one solution; and on OK it goes by the set of the requests.
 -- Assumes nothing.
 use mathlib.Core.Path.{_≡_, refl, sym, ap, _∙_, fun-ext, subst}
-use mathlib.Core.Logic.{⊎-elim}
+use mathlib.Core.Logic.{⊎-elim, by-cases}
+use mathlib.Core.Bool.{Bool, true, _&&_, _||_}
 use mathlib.Core.List.{List}
-use Prim.Native.Nat.{ℕ, _<_}
-use lib.ListN.{length}
-use Rattle.theory.specs.Numbers.{EVENTS}
-use Rattle.theory.specs.Below.{ExactlyOne}
+use Prim.Native.Nat.{ℕ, _+_, _*_, _<_}
+use native.Mathlib.Decide.{decLt}
+use native.Mathlib.Omega.{arith}
+use lib.Dec.{ltb, eqb}
+use lib.ListN.{length, getD, List·getD-eq-default}
+use borrow.Author.Tests.{ltb-true, eqb-true}
+use Rattle.theory.specs.Numbers.{EVENTS, PRIORITIES}
+use Rattle.theory.specs.Below.{anyBelow, ExactlyOne}
 use Rattle.theory.specs.Events.{Events, Roles}
-use Rattle.theory.specs.Sheet.{Sheet, GoodOrder}
+use Rattle.theory.specs.Sheet.{Periodic, Sheet, GoodOrder, is, rowDue, due}
 use Rattle.theory.specs.Instant.{Requests, Solves}
 use Rattle.theory.specs.Graph.{NoLoop}
-use Rattle.theory.specs.Box.{State, SameState, Step, givens}
+use Rattle.theory.specs.Box.{State, SameState, Step, row, givens}
+use Rattle.theory.specs.Laws.Tests.{and-left, and-right, or-cases, not-both}
+use Rattle.theory.specs.Laws.Below.{any-elim}
+use Rattle.theory.specs.Laws.Limits.{periodic-says}
 use Rattle.theory.specs.Laws.OneSolution.{InBuffer, one-solution, solution-in-buffer}
 use Rattle.theory.specs.Laws.Run.{step-same}
 use Rattle.answers.specs.Laws.{verdict-cases}
 use Rattle.answers.specs.declared.Refusal.{Refusal}
 use Rattle.answers.specs.declared.Verdict.{Verdict}
 use Rattle.answers.specs.declared.Verdict.the-variants.{Pass, Refuse}
-use Rattle.tables.specs.Buffers.{rolesOf, eventsOf}
+use Rattle.tables.specs.Layout.{sheetOf, periodicAt}
+use Rattle.tables.specs.Buffers.{bit, rolesOf, eventsOf, waitingOf}
 use Rattle.tables.specs.Asked.{Asked, asks}
+use Rattle.masks.specs.Laws.Bits.{bit-high, bit-none}
 use Rattle.masks.specs.Laws.Held.{Narrow, roles-one, events-one, waiting-one, buffer-of}
 use Rattle.row_judge.specs.Judge.{Rules, sheetIn}
 use Rattle.judge.specs.Laws.{judge-passes}
+use Rattle.requests.specs.Laws.{AllFit, fit-says, asks-elim}
 use Rattle.step.specs.Outcome.{Lent, stateIn, judgeStep, Stepped, Outcome}
 use Rattle.step.specs.Laws.Passes.{Accepted, step-passes}
 
@@ -86,3 +97,54 @@ one-buffer sh good nl ST G fits =
       λ m h.
           events-one m l (h .0) (b .1) (λ e p. ap (λ (S : Events). S e p) (one .2 (eventsOf m) (h .2) ∙ is)),
     )
+
+-- ---- the givens of an instant, of a waiting buffer of 16 bits and of requests within their limits, are such
+
+waits-in : (l : Lent) → Narrow 16 (l .waiting) → (k : ℕ) → InBuffer (waitingOf (l .waiting) k)
+waits-in l narrow k e p h =
+    let n : ℕ = EVENTS * k + e in
+    let m : ℕ = getD (l .waiting) n 0 in
+    let b : bit m p ≡ true = and-right (ltb e EVENTS) (bit m p) h in (
+      ltb-true e EVENTS (and-left (ltb e EVENTS) (bit m p) h),
+      by-cases (decLt p PRIORITIES)
+          (λ (x : p < PRIORITIES). x)
+          (λ (x : ¬ (p < PRIORITIES)).
+          by-cases (decLt n (length (l .waiting)))
+          (λ (y : n < length (l .waiting)). not-both b (bit-high m 16 p (narrow n y) (omega arith)))
+          (λ (y : ¬ (n < length (l .waiting))).
+          let z : m ≡ 0 = List·getD-eq-default (l .waiting) 0 (omega arith) in
+          not-both b (ap (λ (x : ℕ). bit x p) z ∙ bit-none p))),
+    )
+
+givens-in : (R : Rules) → GoodOrder (sheetIn R) → (q : Asked) → AllFit (R .roleCount) q → (l : Lent) → Narrow 16 (l .waiting) → InBuffer (givens (sheetIn R) (asks q) (stateIn l))
+unfolding givens due sheetOf
+givens-in R good q fit l narrow e p h =
+    let t : ℕ = l .instant in
+    let falls : ℕ → Bool = λ i. rowDue (periodicAt (R .periodics) i) t && is (periodicAt (R .periodics) i .event) (periodicAt (R .periodics) i .priority) e p in
+    let waits : Bool = waitingOf (l .waiting) (row t) e p in
+    ⊎-elim
+    (λ (d : anyBelow (R .periodicCount) falls ≡ true).
+    let r = any-elim (R .periodicCount) falls d in
+    let w : Periodic = periodicAt (R .periodics) (r .0) in
+    let k = periodic-says (R .roleCount) w .0 (good .periodics (r .0) (r .1)) in
+    let s = and-right (rowDue w t) (is (w .event) (w .priority) e p) (r .2) in
+    let x : w .event ≡ e = eqb-true _ _ (and-left (eqb (w .event) e) (eqb (w .priority) p) s) in
+    let y : w .priority ≡ p = eqb-true _ _ (and-right (eqb (w .event) e) (eqb (w .priority) p) s) in
+    (omega (arith, k .event, good .few-roles), omega (arith, k .priority)))
+    (λ (o : (waits || asks q 0 e p) ≡ true).
+    ⊎-elim
+    (λ (w : waits ≡ true). waits-in l narrow (row t) e p w)
+    (λ (a : asks q 0 e p ≡ true).
+    let r = asks-elim q 0 e p a in
+    let k = fit-says (R .roleCount) q fit (r .0) (r .1) in
+    let x : q .request (r .0) .event ≡ e = eqb-true _ _ (and-left (eqb (q .request (r .0) .event) e) (eqb (q .request (r .0) .priority) p) (r .3)) in
+    let y : q .request (r .0) .priority ≡ p = eqb-true _ _ (and-right (eqb (q .request (r .0) .event) e) (eqb (q .request (r .0) .priority) p) (r .3)) in
+    (omega (arith, k .event, good .few-roles), omega (arith, k .priority)))
+    (or-cases waits (asks q 0 e p) o))
+    (or-cases (anyBelow (R .periodicCount) falls) (waits || asks q 0 e p) h)
+
+-- so of every instant, with any roles, any waiting buffer of 16 bits and any requests within their limits, exactly one buffer holds the solution
+pub one-buffer-served : (R : Rules) → GoodOrder (sheetIn R) → NoLoop (sheetIn R) → (q : Asked) → AllFit (R .roleCount) q → (l : Lent) → Narrow 16 (l .waiting)
+    → ExactlyOne (λ (b : List ℕ). (length b ≡ EVENTS) × Narrow 16 b × Solves (sheetIn R) (rolesOf (l .roles)) (givens (sheetIn R) (asks q) (stateIn l)) (eventsOf b))
+one-buffer-served R good nl q fit l narrow =
+    one-buffer (sheetIn R) good nl (rolesOf (l .roles)) (givens (sheetIn R) (asks q) (stateIn l)) (givens-in R good q fit l narrow)
