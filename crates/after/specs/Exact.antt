@@ -1,7 +1,6 @@
 -- The contracts of this crate's public functions leave one possible answer: any two that they allow are equal.
 -- Assumes nothing.
 use mathlib.Core.Path.{_≡_}
-use mathlib.Core.List.{List}
 use Prim.Native.Nat.{ℕ}
 use Rattle.theory.specs.Numbers.{ROLES, EVENTS}
 use Rattle.theory.specs.Below.{countBelow}

@@ -1,17 +1,17 @@
 -- The roles as a number are the roles after: each role below 64 by its own turn, and above there are none.
 -- Assumes nothing.
 use mathlib.Core.Path.{_≡_, refl, sym, ap, _∙_}
-use mathlib.Core.Logic.{⊎-elim, by-cases}
-use mathlib.Core.Bool.{Bool, true, false, not, _&&_, _||_}
+use mathlib.Core.Logic.{by-cases}
+use mathlib.Core.Bool.{Bool, true, false, _&&_, _||_}
 use mathlib.Core.List.{List}
-use Prim.Native.Nat.{ℕ, zero, suc, _+_, _*_, _^_, _≤_, _<_}
+use Prim.Native.Nat.{ℕ, zero, suc, _+_, _^_, _≤_, _<_}
 use native.Mathlib.Decide.{decLt}
 use native.Mathlib.Numerals.{add-one}
 use native.Mathlib.Omega.{arith}
 use lib.Dec.{ltb, eqb}
 use borrow.Author.Tests.{lt-ltb, le-ltb, eq-eqb, ne-eqb}
 use Rattle.theory.specs.Numbers.{ROLES}
-use Rattle.theory.specs.Events.{Events, Roles, disable, enable}
+use Rattle.theory.specs.Events.{Events, Roles, enable}
 use Rattle.theory.specs.Instant.{rolesAfter}
 use Rattle.tables.specs.Buffers.{bit, rolesOf, eventsOf}
 use Rattle.masks.specs.Masks.{withRole}

@@ -3,7 +3,6 @@
 use Prim.Native.Nat.{ℕ}
 use Rattle.answers.specs.declared.Name.{Name}
 use Rattle.answers.specs.declared.Name.the-variants.{Length, Frame, Check, Kind, Field, TooMany, Count, Loop, Request, Last}
-use Rattle.answers.specs.declared.Refusal.{Refusal}
 use Rattle.answers.specs.declared.Verdict.{Verdict}
 use Rattle.answers.specs.declared.Verdict.the-variants.{Pass, Refuse}
 use Rattle.answers.specs.declared.Answer.{Answer}

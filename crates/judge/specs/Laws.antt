@@ -10,7 +10,7 @@ use native.Mathlib.Omega.{arith}
 use lib.Dec.{leb}
 use lib.ListN.{getD}
 use borrow.Author.Tests.{leb-true, le-leb, lt-ltb, le-ltb, not-true, not-false}
-use Rattle.theory.specs.Numbers.{ROLES, EVENTS, PERIODIC-ROWS, TRIGGER-ROWS}
+use Rattle.theory.specs.Numbers.{ROLES, PERIODIC-ROWS, TRIGGER-ROWS}
 use Rattle.theory.specs.Sheet.{Sheet, GoodOrder}
 use Rattle.theory.specs.Graph.{NoLoop, LoopAt, Levels}
 use Rattle.theory.specs.LoopTest.{PAIRS, loopPlace}
@@ -21,12 +21,12 @@ use Rattle.theory.specs.Laws.Loop as loop
 use Rattle.theory.specs.Laws.Graph.{HeadsBelow}
 use Rattle.theory.specs.Laws.OneSolution.{good-heads}
 use Rattle.answers.specs.declared.Name.{Name}
-use Rattle.answers.specs.declared.Name.the-variants.{Length, Frame, Check, Kind, Field, TooMany, Count, Loop, Request, Last}
+use Rattle.answers.specs.declared.Name.the-variants.{Field, TooMany, Loop}
 use Rattle.answers.specs.declared.Refusal.{Refusal}
 use Rattle.answers.specs.declared.Verdict.{Verdict}
 use Rattle.answers.specs.declared.Verdict.the-variants.{Pass, Refuse}
 use Rattle.loops.specs.Tested.{tested}
-use Rattle.loops.specs.Exact.{levels-most, levels-say, nothing-says}
+use Rattle.loops.specs.Exact.{levels-say, nothing-says}
 use Rattle.row_judge.specs.Judge.{refuse, andThen, fewRows, rolesFit, rowCount, rowFits, firstUnfit, judgeRows, judgeLoop, judgeTables}
 use Rattle.row_judge.specs.Laws.{fits-periodic, fits-trigger, rows-many, rows-roles, rows-fields, fields-at, fields-pass}
 use Rattle.judge.specs.declared.Judged.{Judged}
@@ -184,7 +184,3 @@ module _ (sh : Sheet) where
         let p : GoodOrder sh × NoLoop sh = judge-passes e in
         let hb : HeadsBelow sh = good-heads sh (p .0) in
         subst (λ (l : List ℕ). Levels sh (λ k. getD l k 0)) (sym levels-tested) (levels-say sh (tested sh) refl hb (nothing-says sh (tested sh) refl hb .1 (p .1)))
-
-    -- and none is above 128
-    pub judged-levels-most : (k : ℕ) → levelIn (judged sh) k ≤ EVENTS
-    judged-levels-most k = subst (λ (l : List ℕ). getD l k 0 ≤ EVENTS) (sym levels-tested) (levels-most sh (tested sh) refl k)

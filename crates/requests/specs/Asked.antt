@@ -1,6 +1,5 @@
 -- A request as the code holds it, and as it is to the definitions.
 -- Assumes nothing.
-use mathlib.Core.Path.{_≡_}
 use Rattle.tables.specs.Asked as lent
 use Rattle.requests.specs.declared.Request.{Request}
 

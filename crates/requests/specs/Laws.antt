@@ -2,20 +2,18 @@
 -- Assumes nothing.
 use mathlib.Core.Path.{_≡_, refl, sym, ap, _∙_}
 use mathlib.Core.Logic.{⊎-elim}
-use mathlib.Core.Bool.{Bool, true, false, not, cond, _&&_}
+use mathlib.Core.Bool.{Bool, true, false, not, _&&_}
 use Prim.Native.Nat.{ℕ, _+_, _≤_, _<_}
 use native.Mathlib.Omega.{arith}
 use lib.Dec.{ltb, eqb}
-use borrow.Author.Count.{below-more}
 use borrow.Author.Tests.{lt-ltb, le-ltb, ltb-false, eqb-true, eq-eqb, not-false}
 use Rattle.theory.specs.Below.{firstBelow}
 use Rattle.theory.specs.Sheet.{is}
 use Rattle.theory.specs.Laws.Tests.{and-left, and-right, and-both, test}
 use Rattle.theory.specs.Laws.Below.{any-intro, any-elim}
 use Rattle.theory.specs.Laws.Limits.{RequestWithin, request-says}
-use Rattle.theory.specs.Laws.First.{first-is, first-none, first-past}
+use Rattle.theory.specs.Laws.First.{first-past}
 use Rattle.answers.specs.declared.Name.the-variants.{Request}
-use Rattle.answers.specs.declared.Verdict.{Verdict}
 use Rattle.answers.specs.declared.Verdict.the-variants.{Pass}
 use Rattle.answers.specs.Laws.{no-pass}
 use Rattle.tables.specs.Asked as lent
@@ -23,7 +21,7 @@ use Rattle.tables.specs.Asked.{Asked, asks}
 use Rattle.masks.specs.Joins.{Entry}
 use Rattle.waiting.specs.Waiting.{placeOf}
 use Rattle.row_judge.specs.Judge.{refuse}
-use Rattle.requests.specs.Requests.{fits, firstOutside, judgeRequests, givenEntry, waitEntry}
+use Rattle.requests.specs.Requests.{fits, outside, firstOutside, judgeRequests, givenEntry, waitEntry}
 
 -- ---- what is asked for
 
@@ -49,34 +47,24 @@ pub fit-says : (roleCount : ℕ) (q : Asked) → AllFit roleCount q → (i : ℕ
 fit-says roleCount q h i l = request-says roleCount (q .request i .delay) (q .request i .event) (q .request i .priority) .0 (h i l)
 
 module _ (roleCount : ℕ) (q : Asked) where
-  -- those before k are within
-  abbrev pub Before : ℕ → Type 0
-  Before k = (i : ℕ) → i < k → not (fits roleCount (q .request i)) ≡ false
-
-  pub before-next : (k : ℕ) (t : Bool) → t ≡ fits roleCount (q .request k) → not t ≡ false → Before k → Before (k + 1)
-  before-next k t e f h i l = below-more (λ i. not (fits roleCount (q .request i)) ≡ false) k h (ap not (sym e) ∙ f) i (omega arith)
-
-  pub outside-here : (k : ℕ) (t : Bool) → t ≡ fits roleCount (q .request k) → not t ≡ true → k < q .count → Before k → refuse Request k ≡ judgeRequests roleCount q
+  -- the first that is outside is refused
+  pub outside-here : (k : ℕ) → k < q .count → k ≡ firstBelow (q .count) (outside roleCount q) → refuse Request k ≡ judgeRequests roleCount q
   unfolding judgeRequests firstOutside
-  outside-here k t e f l h =
-      let z : firstBelow (q .count) (λ i. not (fits roleCount (q .request i))) ≡ k = first-is (q .count) (λ i. not (fits roleCount (q .request i))) k l (ap not (sym e) ∙ f) h in
-      rw (z, lt-ltb k (q .count) l) refl
+  outside-here k l e = rw (← e, lt-ltb k (q .count) l) refl
 
-  pub outside-none : (k : ℕ) → q .count ≤ k → Before k → Pass ≡ judgeRequests roleCount q
+  pub outside-none : q .count ≡ firstBelow (q .count) (outside roleCount q) → Pass ≡ judgeRequests roleCount q
   unfolding judgeRequests firstOutside
-  outside-none k l h =
-      let z : firstBelow (q .count) (λ i. not (fits roleCount (q .request i))) ≡ q .count = first-none (q .count) (λ i. not (fits roleCount (q .request i))) (λ i m. h i (omega arith)) in
-      rw (z, le-ltb (q .count) (q .count) (omega arith)) refl
+  outside-none e = rw (← e, le-ltb (q .count) (q .count) (omega arith)) refl
 
   -- where nothing is refused, every request is within its limits
   pub requests-pass : judgeRequests roleCount q ≡ Pass → AllFit roleCount q
   unfolding judgeRequests firstOutside
   requests-pass h i l =
-      let outside : ℕ → Bool = λ k. not (fits roleCount (q .request k)) in
+      let k : ℕ = firstBelow (q .count) (outside roleCount q) in
       ⊎-elim
-      (λ (t : ltb (firstBelow (q .count) outside) (q .count) ≡ true). no-pass _ (rw t at h))
-      (λ (f : ltb (firstBelow (q .count) outside) (q .count) ≡ false). not-false _ (first-past (q .count) outside (ltb-false _ _ f) i l))
-      (test (ltb (firstBelow (q .count) outside) (q .count)))
+      (λ (t : ltb k (q .count) ≡ true). no-pass _ (rw t at h))
+      (λ (f : ltb k (q .count) ≡ false). not-false _ (first-past (q .count) (outside roleCount q) (ltb-false _ _ f) i l))
+      (test (ltb k (q .count)))
 
 -- ---- the entries, made of what the code read
 

@@ -1,6 +1,5 @@
 -- The requests of one instant: REQUEST, and what they add to the events and to the waiting buffer (document 01, 'One instant' and 'What comes back').
 -- Assumes nothing.
-use mathlib.Core.Path.{_≡_}
 use mathlib.Core.Bool.{Bool, not, cond}
 use Prim.Native.Nat.{ℕ, _+_}
 use lib.Dec.{ltb, eqb}
@@ -19,9 +18,13 @@ use Rattle.row_judge.specs.Judge.{refuse}
 abbrev pub fits : ℕ → lent.Request → Bool
 fits roleCount r = requestFits roleCount (r .delay) (r .event) (r .priority)
 
+-- request k is not
+abbrev pub outside : ℕ → Asked → ℕ → Bool
+outside roleCount q k = not (fits roleCount (q .request k))
+
 -- the first request outside its limits; the number of requests where there is none
 unfoldable pub firstOutside : ℕ → Asked → ℕ
-firstOutside roleCount q = firstBelow (q .count) (λ k. not (fits roleCount (q .request k)))
+firstOutside roleCount q = firstBelow (q .count) (outside roleCount q)
 
 -- REQUEST at its number, from 0
 unfoldable pub judgeRequests : ℕ → Asked → Verdict

@@ -10,7 +10,6 @@ use Rattle.theory.specs.Sheet.{Sheet, periodicFits, triggerFits}
 use Rattle.theory.specs.LoopTest.{PAIRS, loopPlace}
 use Rattle.answers.specs.declared.Name.{Name}
 use Rattle.answers.specs.declared.Name.the-variants.{Field, TooMany, Loop}
-use Rattle.answers.specs.declared.Refusal.{Refusal}
 use Rattle.answers.specs.declared.Verdict.{Verdict}
 use Rattle.answers.specs.declared.Verdict.the-variants.{Pass, Refuse}
 use Rattle.tables.specs.Layout.{sheetOf}

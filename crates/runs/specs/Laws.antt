@@ -1,35 +1,32 @@
 -- Any run of accepted steps from the fresh state is the paper's: what was lent before each step, and after the last, are the states of a run of the model.
 -- Assumes nothing.
 use mathlib.Core.Path.{_≡_, refl, sym, ap, _∙_, fun-ext, subst}
-use mathlib.Core.Logic.{⊎-elim, by-cases}
-use mathlib.Core.Bool.{Bool, true, false, _&&_}
+use mathlib.Core.Logic.{by-cases}
+use mathlib.Core.Bool.{true, false}
 use mathlib.Core.List.{List}
-use Prim.Native.Nat.{ℕ, zero, suc, _+_, _*_, _≤_, _<_}
+use Prim.Native.Nat.{ℕ, zero, suc, _+_, _*_, _<_}
 use native.Mathlib.Decide.{decLt}
 use native.Mathlib.Omega.{arith}
-use lib.Dec.{ltb}
-use lib.ListN.{getD, replicate, getD-replicate}
+use lib.ListN.{replicate, getD-replicate}
 use borrow.Author.Tests.{lt-ltb, le-ltb}
 use Rattle.theory.specs.Numbers.{EVENTS, WAITING-ROWS, WAITING-NUMBERS}
-use Rattle.theory.specs.Events.{Events, Roles}
 use Rattle.theory.specs.Sheet.{Sheet, GoodOrder}
 use Rattle.theory.specs.Instant.{Requests, requestFits}
 use Rattle.theory.specs.Graph.{NoLoop}
-use Rattle.theory.specs.Model.{Stream, Trace, ExecutionModel, noRoles}
-use Rattle.theory.specs.Box.{State, Step, Fresh, Run, Within}
-use Rattle.theory.specs.Laws.Below.{below-cases}
+use Rattle.theory.specs.Model.{Stream, noRoles}
+use Rattle.theory.specs.Box.{State, Step, Run, Within}
 use Rattle.theory.specs.Laws.Exists.{is-only}
 use Rattle.theory.specs.Laws.Run.{canonical-run}
 use Rattle.tables.specs.Layout.{sheetOf}
-use Rattle.tables.specs.Buffers.{bit, rolesOf, eventsOf, waitingOf}
+use Rattle.tables.specs.Buffers.{rolesOf, eventsOf, waitingOf}
 use Rattle.tables.specs.Asked.{Asked, asks}
 use Rattle.masks.specs.Laws.Bits.{bit-none}
 use Rattle.row_judge.specs.Judge.{Rules, sheetIn}
 use Rattle.judge.specs.Laws.{judge-passes}
-use Rattle.requests.specs.Laws.{AllFit, asks-elim, requests-pass}
-use Rattle.step.specs.Outcome.{Lent, stateIn, Outcome}
+use Rattle.requests.specs.Laws.{asks-elim, requests-pass}
+use Rattle.step.specs.Outcome.{Lent, stateIn}
 use Rattle.step.specs.Laws.Passes.{Accepted, step-passes}
-use Rattle.runs.specs.Runs.{FreshLent, HandedOn, Steps, GoesOn, Agrees, IsPapers}
+use Rattle.runs.specs.Runs.{HandedOn, Steps, GoesOn, IsPapers}
 
 -- a fresh buffer holds nothing
 zeros-none : (k e p : ℕ) → k < WAITING-ROWS → waitingOf (replicate WAITING-NUMBERS 0) k e p ≡ false

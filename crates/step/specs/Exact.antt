@@ -35,7 +35,7 @@ use Rattle.row_judge.specs.Judge.{Rules, sheetIn}
 use Rattle.judge.specs.Laws.{judge-passes}
 use Rattle.requests.specs.Laws.{AllFit, fit-says, asks-elim}
 use Rattle.step.specs.Outcome.{Lent, stateIn, judgeStep, Stepped, Outcome}
-use Rattle.step.specs.Laws.Passes.{Accepted, step-passes}
+use Rattle.step.specs.Laws.Passes.{step-passes}
 
 -- ---- two steps on what was lent are one, where their requests ask for the same set
 

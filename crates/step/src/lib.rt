@@ -1,4 +1,3 @@
-ghost use mathlib.Core.Path.{_≡_};
 ghost use Prim.Native.Nat.{_≤_};
 ghost use Rattle.theory.specs.Numbers.{LAST-INSTANT};
 ghost use Rattle.tables.specs.Asked.{flat};

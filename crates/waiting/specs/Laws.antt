@@ -1,23 +1,23 @@
 -- What the rows hold once they are copied or cleared, and what joins them.
 -- Assumes nothing.
-use mathlib.Core.Path.{_≡_, refl, sym, ap, _∙_}
+use mathlib.Core.Path.{_≡_, refl, ap, _∙_}
 use mathlib.Core.Logic.{⊎-elim, by-cases}
 use mathlib.Core.Bool.{Bool, true, false, not, _&&_}
 use mathlib.Core.List.{List}
-use Prim.Native.Nat.{ℕ, _+_, _*_, _≤_, _<_}
+use Prim.Native.Nat.{ℕ, _+_, _*_, _<_}
 use native.Mathlib.Decide.{decLt}
 use native.Mathlib.Omega.{arith}
 use lib.Dec.{ltb, eqb}
 use lib.ListN.{length, getD}
-use borrow.Author.Tests.{lt-ltb, le-ltb, eq-eqb, ne-eqb}
-use Rattle.theory.specs.Numbers.{EVENTS, WAITING-ROWS, WAITING-NUMBERS}
+use borrow.Author.Tests.{lt-ltb, le-ltb}
+use Rattle.theory.specs.Numbers.{EVENTS, WAITING-NUMBERS}
 use Rattle.theory.specs.Events.{Events, Roles}
 use Rattle.theory.specs.Sheet.{Trigger}
 use Rattle.theory.specs.Instant.{allows, met}
 use Rattle.theory.specs.Box.{row}
 use Rattle.theory.specs.Laws.Tests.{test}
 use Rattle.tables.specs.Buffers.{bit, eventsOf, waitingOf}
-use Rattle.masks.specs.Joins.{Entry, writes}
+use Rattle.masks.specs.Joins.{Entry}
 use Rattle.masks.specs.Laws.Bits.{bit-none}
 use Rattle.masks.specs.Laws.Joins.{writes-in, writes-out}
 use Rattle.waiting.specs.Waiting.{placeOf, copied, cleared, triggerEntry}

@@ -1,7 +1,6 @@
 -- `due::row_due` meets its contract: it is the definition's tests.
 -- Assumes nothing.
 use Rattle.theory.specs.Sheet.{untilEnd, rowDue}
-use borrow.Author.Tests.{lt-ltb, le-ltb, le-leb, lt-leb, eq-eqb, ne-eqb}
 use borrow.Author.Needs.{needs}
 use Rattle.due.proofs.row_due.Statement.{statement}
 use Rattle.due.proofs.row_due.Tie as tie

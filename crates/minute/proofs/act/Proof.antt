@@ -1,7 +1,6 @@
 -- `minute::act` meets its contract: its parts, one after the other.
 -- Assumes nothing.
 use mathlib.Core.Path.{refl, subst}
-use native.Mathlib.Omega.{arith}
 use mathlib.Core.List.{List}
 use Prim.Native.Nat.{ℕ}
 use Rattle.solver.specs.Solved.{Solved}

@@ -5,7 +5,7 @@ use mathlib.Core.List.{List}
 use Prim.Native.Nat.{ℕ}
 use native.Mathlib.Numerals.{add-one}
 use lib.ListN.{length}
-use Rattle.theory.specs.Numbers.{EVENTS, WAITING-NUMBERS}
+use Rattle.theory.specs.Numbers.{EVENTS}
 use Rattle.theory.specs.Events.{Events}
 use Rattle.theory.specs.Instant.{Solves}
 use Rattle.theory.specs.Box.{givens}

@@ -2,33 +2,33 @@
 -- Assumes nothing.
 use mathlib.Core.Path.{_≡_, refl, sym, ap, ap₂, _∙_, subst}
 use mathlib.Core.Logic.{⊎-elim}
-use mathlib.Core.Bool.{Bool, true, false, not, _&&_, _||_}
+use mathlib.Core.Bool.{Bool, true, false, _&&_, _||_}
 use mathlib.Core.List.{List}
-use Prim.Native.Nat.{ℕ, _+_, _*_, _≤_, _<_}
+use Prim.Native.Nat.{ℕ, _+_, _≤_, _<_}
 use native.Mathlib.Omega.{arith}
 use lib.Dec.{ltb, eqb}
 use lib.ListN.{length}
-use borrow.Author.Tests.{lt-ltb, ltb-true, eqb-true, eq-eqb}
+use borrow.Author.Tests.{lt-ltb, ltb-true, eq-eqb}
 use Rattle.theory.specs.Numbers.{EVENTS, PRIORITIES, WAITING-ROWS, WAITING-NUMBERS, LONGEST-DELAY}
 use Rattle.theory.specs.Below.{anyBelow}
 use Rattle.theory.specs.Events.{Events, Roles}
 use Rattle.theory.specs.Sheet.{Periodic, Trigger, Sheet, GoodOrder, is, rowDue, due}
 use Rattle.theory.specs.Instant.{allows, met, waitsFor}
-use Rattle.theory.specs.Box.{State, row, givens, rowAfter}
+use Rattle.theory.specs.Box.{row, givens, rowAfter}
 use Rattle.theory.specs.Laws.Tests.{and-left, and-right, and-both, or-left, or-right, or-cases, bool-ext}
 use Rattle.theory.specs.Laws.Below.{any-intro, any-elim}
 use Rattle.theory.specs.Laws.Limits.{periodic-says}
-use Rattle.theory.specs.Laws.Exists.{is-self, is-only}
+use Rattle.theory.specs.Laws.Exists.{is-only}
 use Rattle.theory.specs.Laws.History.{waits-asked, waits-head, waits-later, waits-cases, Sent}
 use Rattle.theory.specs.Laws.OneSolution.{good-trigger}
 use Rattle.tables.specs.Layout.{sheetOf, periodicAt, triggerAt}
 use Rattle.tables.specs.Buffers.{rolesOf, eventsOf, waitingOf}
 use Rattle.tables.specs.Asked.{Asked, asks}
-use Rattle.masks.specs.Joins.{Entry, joins}
+use Rattle.masks.specs.Joins.{joins}
 use Rattle.masks.specs.Laws.Joins.{writes-size}
 use Rattle.masks.specs.Laws.Fill.{joins-size, joins-events, joins-waiting}
 use Rattle.due.specs.Due.{dueAt}
-use Rattle.waiting.specs.Waiting.{placeOf, copied, cleared, triggerEntry}
+use Rattle.waiting.specs.Waiting.{copied, cleared, triggerEntry}
 use Rattle.waiting.specs.Laws.{copied-is, cleared-is}
 use Rattle.row_judge.specs.Judge.{Rules, sheetIn}
 use Rattle.requests.specs.Requests.{givenEntry, waitEntry}

@@ -1,7 +1,7 @@
 -- The outcome, put together from the verdicts of its parts and what was then done.
 -- Assumes nothing.
 use mathlib.Core.Path.{_≡_, refl, sym, ap, ap₂, _∙_, subst}
-use mathlib.Core.Bool.{Bool, true}
+use mathlib.Core.Bool.{Bool}
 use mathlib.Core.List.{List}
 use Prim.Native.Nat.{ℕ, _≤_}
 use Rattle.theory.specs.Numbers.{LAST-INSTANT}
@@ -16,8 +16,8 @@ use Rattle.judge.specs.Judged.{judged}
 use Rattle.minute.specs.Minute.{Acted}
 use Rattle.order.specs.Order.{fewer, judgeFirst}
 use Rattle.requests.specs.Requests.{judgeRequests}
-use Rattle.step.specs.Outcome.{Lent, lengthsFit, judgeStep, Stepped, Outcome}
-use Rattle.step.specs.Parts.{Sound, Sized, Inner}
+use Rattle.step.specs.Outcome.{Lent, lengthsFit, judgeStep, Outcome}
+use Rattle.step.specs.Parts.{Sized, Inner}
 use Rattle.step.specs.Laws.Acted.{acted}
 use Rattle.step.specs.Laws.Passes.{first-says, fewer-same, step-parts, lengths-say, verdict-is, sound}
 
