@@ -110,6 +110,43 @@ static void day_tape(struct dice *dice, uint64_t seed, struct text *out)
     tape_edge(dice, out, &book, (uint32_t)(seed % tape_edges()));
 }
 
+/* Changes one character of the sheet of an input to a digit. */
+static void damage_sheet(struct dice *dice, struct text *out)
+{
+    size_t end = line_start(out, book.periodic_count + book.trigger_count + 2);
+
+    out->bytes[below(dice, (uint32_t)end)] = (uint8_t)"0123456789ABCDEF"[below(dice, 16)];
+}
+
+/* A sheet and a tape that are both wrong, more often than not: the sheet's refusal comes first. */
+static void day_both(struct dice *dice, uint64_t seed, struct text *out)
+{
+    uint32_t edge = below(dice, tape_edges()), way = (uint32_t)(seed % 4);
+
+    if (way == 0) {
+        loop_book(dice, &book, between(dice, 1, 128), 0);
+    } else {
+        good_book(dice, &book);
+    }
+    if (way == 1) {
+        row_edge(dice, &book, below(dice, row_edges()));
+    }
+    tape_edge(dice, out, &book, edge);
+    if (way > 1) {
+        damage_sheet(dice, out);
+    }
+    if (way > 2) {
+        mend_checks(out);
+    }
+}
+
+/* An input that is odd as a whole. */
+static void day_odd(struct dice *dice, uint64_t seed, struct text *out)
+{
+    good_book(dice, &book);
+    odd_input(dice, out, &book, (uint32_t)(seed % odd_inputs()));
+}
+
 /* A book for damage: mostly a good one, at times one with loops. */
 static void book_for_damage(struct dice *dice)
 {
@@ -554,6 +591,8 @@ static const struct kind kinds[] = {
     {"day-edge", "day", "a field at the edge of its limit", day_edge},
     {"day-lines", "day", "odd, missing and doubled lines of the sheet", day_lines},
     {"day-tape", "day", "tapes at every edge and with every refusal", day_tape},
+    {"day-both", "day", "sheet and tape both at an edge or damaged", day_both},
+    {"day-odd", "day", "empty, endless, not split, doubled, far down", day_odd},
     {"day-damage", "day", "characters and lines damaged", day_damage},
     {"day-mend", "day", "bytes and lines damaged, checks put right", day_mend},
     {"day-size", "day", "inputs near 65,536 bytes, sheets near 16,384", day_size},

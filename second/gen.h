@@ -79,6 +79,10 @@ void row_edge(struct dice *dice, struct book *book, uint32_t which);
 void text_edge(struct dice *dice, struct text *text, const struct book *book, uint32_t which);
 void tape_edge(struct dice *dice, struct text *text, const struct book *book, uint32_t which);
 
+/* inputs.c: whole inputs that are odd */
+uint32_t odd_inputs(void);
+void odd_input(struct dice *dice, struct text *text, const struct book *book, uint32_t which);
+
 /* gensteps.c: step cases */
 void step_case_of(struct dice *dice, struct step_case *to, const struct book *book);
 void spoil_step(struct dice *dice, struct step_case *to, uint32_t which);

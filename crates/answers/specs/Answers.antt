@@ -24,3 +24,12 @@ numberOf Last = 10
 abbrev pub answered : Verdict → Answer
 answered Pass = record { number = 0; place = 0 }
 answered (Refuse r) = record { number = numberOf (r .name); place = r .place }
+
+-- a refusal, at its place
+abbrev pub refuse : Name → ℕ → Verdict
+refuse name place = Refuse (record { name = name; place = place })
+
+-- a later test is asked only where those before it pass
+unfoldable pub andThen : Verdict → Verdict → Verdict
+andThen Pass later = later
+andThen (Refuse r) later = Refuse r

@@ -1,6 +1,6 @@
 ghost use mathlib.Core.Path.{_≡_};
 ghost use Prim.Native.Nat.{_+_, _*_};
-ghost use Rattle.answers.specs.Answers.{numberOf, answered};
+ghost use Rattle.answers.specs.Answers.{numberOf, answered, refuse};
 ghost use Rattle.theory.specs.Graph.{pairPlace};
 
 // The refusals of document 01, 'What comes back', by name.
@@ -70,6 +70,16 @@ pub fn answer_of(verdict: Verdict) -> Answer
             }
         }
     }
+}
+
+// The verdict that gives a refusal.
+pub fn refuse(name: Name, place: u32) -> Verdict
+    ensures { λ r. ⌜ r ≡ refuse name place ⌝ }
+{
+    Verdict::Refuse(Refusal {
+        name: name,
+        place: place,
+    })
 }
 
 // The place of a loop from one event to another, the pair as 128 × from + to.

@@ -4,11 +4,10 @@ use mathlib.Core.Path.{_≡_, refl, sym, ap, _∙_, fun-ext, subst}
 use mathlib.Core.Logic.{⊎-elim}
 use mathlib.Core.Bool.{Bool, true, false, not, cond, _&&_}
 use mathlib.Core.List.{List}
-use Prim.Native.Nat.{ℕ, _+_, _*_, _≤_, _<_, min}
+use Prim.Native.Nat.{ℕ, _+_, _≤_, _<_, min}
 use native.Mathlib.Omega.{arith}
 use lib.Dec.{leb, eqb}
-use lib.ListN.{length, getD, set, length-set}
-use lib.Seq.{getD-set-same, getD-set-other}
+use lib.ListN.{length, getD}
 use borrow.Author.Tests.{leb-true}
 use Rattle.theory.specs.Numbers.{LAST-INSTANT, REQUESTS}
 use Rattle.theory.specs.Below.{firstBelow}
@@ -20,60 +19,19 @@ use Rattle.theory.specs.Laws.Below.{below-cases, any-same}
 use Rattle.answers.specs.declared.Verdict.{Verdict}
 use Rattle.answers.specs.declared.Name.the-variants.{Length, TooMany, Last}
 use Rattle.tables.specs.Buffers.{eventsOf}
-use Rattle.tables.specs.Layout.{byteAt}
 use Rattle.tables.specs.Asked as lent
-use Rattle.tables.specs.Asked.{Asked, REQUEST-BYTES, requestAt, flat, asks}
+use Rattle.tables.specs.Asked.{Asked, requestAt, flat, asks}
 use Rattle.theory.specs.Laws.First.{first-same}
-use Rattle.row_judge.specs.Judge.{Rules, sheetIn, refuse, andThen, judgeTables}
+use Rattle.answers.specs.Answers.{refuse, andThen}
+use Rattle.row_judge.specs.Judge.{Rules, sheetIn, judgeTables}
 use Rattle.requests.specs.declared.Request.{Request}
 use Rattle.requests.specs.Asked.{requestOf}
 use Rattle.requests.specs.Requests.{fits, firstOutside, judgeRequests}
 use Rattle.step.specs.Outcome.{Lent, stateIn, lengthsFit, judgeStep, Outcome}
 use Rattle.step.specs.Laws.Passes.{step-passes}
-use Rattle.entry.specs.Listed.{FLAT-NUMBERS, none, listed, Holds, putAt}
-
--- ---- a request put into flat numbers
-
-module _ (l : List ℕ) (i : ℕ) (r : lent.Request) where
-  -- a number before its place stays
-  put-low : (j : ℕ) → j < REQUEST-BYTES * i → byteAt (putAt l i r) j ≡ byteAt l j
-  unfolding putAt
-  put-low j h =
-      let at : ℕ = REQUEST-BYTES * i in
-      let a : List ℕ = set l at (r .event) in
-      let b : List ℕ = set a (at + 1) (r .priority) in
-      getD-set-other b (at + 2) j (r .delay) 0 (λ e. absurd (omega arith))
-      ∙ (getD-set-other a (at + 1) j (r .priority) 0 (λ e. absurd (omega arith))
-      ∙ getD-set-other l at j (r .event) 0 (λ e. absurd (omega arith)))
-
-  -- so the requests before it stay
-  put-before : (k : ℕ) → k < i → requestAt (putAt l i r) k ≡ requestAt l k
-  unfolding requestAt
-  put-before k h =
-      let at : ℕ = REQUEST-BYTES * k in
-      let e = put-low at (omega arith) in
-      let p = put-low (at + 1) (omega arith) in
-      let d = put-low (at + 2) (omega arith) in
-      λ t. record { event = e t; priority = p t; delay = d t }
-
-  -- and it is there
-  put-here : length l ≡ FLAT-NUMBERS → i < REQUESTS → requestAt (putAt l i r) i ≡ r
-  unfolding requestAt putAt
-  put-here n h =
-      let at : ℕ = REQUEST-BYTES * i in
-      let a : List ℕ = set l at (r .event) in
-      let b : List ℕ = set a (at + 1) (r .priority) in
-      let na : length a ≡ FLAT-NUMBERS = length-set l at (r .event) ∙ n in
-      let nb : length b ≡ FLAT-NUMBERS = length-set a (at + 1) (r .priority) ∙ na in
-      let e : getD (set b (at + 2) (r .delay)) at 0 ≡ r .event =
-      getD-set-other b (at + 2) at (r .delay) 0 (λ e. absurd (omega arith))
-      ∙ (getD-set-other a (at + 1) at (r .priority) 0 (λ e. absurd (omega arith))
-      ∙ getD-set-same l at (r .event) 0 (omega (arith, n))) in
-      let p : getD (set b (at + 2) (r .delay)) (at + 1) 0 ≡ r .priority =
-      getD-set-other b (at + 2) (at + 1) (r .delay) 0 (λ e. absurd (omega arith))
-      ∙ getD-set-same a (at + 1) (r .priority) 0 (omega (arith, na)) in
-      let d : getD (set b (at + 2) (r .delay)) (at + 2) 0 ≡ r .delay = getD-set-same b (at + 2) (r .delay) 0 (omega (arith, nb)) in
-      λ t. record { event = e t; priority = p t; delay = d t }
+use Rattle.flats.specs.Flat.{FLAT-NUMBERS, putAt}
+use Rattle.flats.specs.Laws.{put-before, put-here}
+use Rattle.entry.specs.Listed.{none, listed, Holds}
 
 -- ---- the flat numbers hold the first i records: none, one more, all
 

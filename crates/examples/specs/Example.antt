@@ -12,7 +12,8 @@ use Rattle.theory.specs.Instant.{met, Solves, rolesAfter}
 use Rattle.theory.specs.Graph.{NoLoop, LoopAt}
 use Rattle.answers.specs.declared.Name.the-variants.{Loop}
 use Rattle.answers.specs.declared.Verdict.the-variants.{Pass}
-use Rattle.row_judge.specs.Judge.{refuse, judgeTables}
+use Rattle.answers.specs.Answers.{refuse}
+use Rattle.row_judge.specs.Judge.{judgeTables}
 use Rattle.examples.specs.Written.{Prioritized, among, Rule, Rest, sheetWith, Fits}
 use Rattle.examples.specs.Day.{Day, Worked}
 

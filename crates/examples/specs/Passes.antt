@@ -21,7 +21,8 @@ use Rattle.text.specs.Lines.{lines}
 use Rattle.text.specs.Framed.{framed}
 use Rattle.frames.specs.Frame.{bytesOf, checked}
 use Rattle.readings.specs.declared.Read.{Read}
-use Rattle.lines.specs.Line.{Step, goes, refused}
+use Rattle.walks.specs.Walks.{Going, goes, refused}
+use Rattle.line_acts.specs.Acts.{State}
 use Rattle.lines.specs.Lines.{reads}
 use Rattle.sheet.specs.Sheet.{start, lengthsFit}
 use Rattle.examples.specs.Written.{Prioritized, at, first, among, Rule, triggerOf, ruleAt, sheetWith, Waits, waitAt, rolesIn, rowsIn, stateOf}
@@ -143,7 +144,7 @@ same (a ∷ k) [] = false
 same (a ∷ k) (b ∷ l) = eqb a b && same k l
 
 -- the lines were read to these counts and tables
-abbrev pub readTo : Step → Read → List ℕ → List ℕ → Bool
+abbrev pub readTo : Going State → Read → List ℕ → List ℕ → Bool
 readTo (goes s) r p t =
     ((eqb (s .seen .roles) (r .roles) && eqb (s .seen .periodics) (r .periodics)) && eqb (s .seen .triggers) (r .triggers))
     && (same (s .periodic) p && same (s .triggers) t)

@@ -24,7 +24,8 @@ use Rattle.fields.specs.Fields.{headerFits, frameFits}
 use Rattle.line_tests.specs.Judge.{inOrder, judgeFrame, judgeLine}
 use Rattle.line_acts.specs.Acts.{seenAfter, tableAfter, after}
 use Rattle.lines.specs.Line.{byVerdict, lineStep}
-use Rattle.lines.specs.Lines.{atEnd, reads}
+use Rattle.walks.specs.Walks.{walks}
+use Rattle.lines.specs.Lines.{atEnd}
 use Rattle.sheet.specs.Sheet.{lengthsFit}
 use Rattle.examples.specs.Written.{_∶_, first, Rule, _gives_after_, _waits-for_, rolesIn, rowsIn}
 use Rattle.examples.specs.Day.{Day}
@@ -133,7 +134,7 @@ all-pass : passing table ≡ true
 unfolding anyBelow allBelow conf holds blocks blocked nonblocked endFits periodicFits triggerFits untilEnd rowDue due allows met ready waitsFor rolesAfter
     counts node drawn edge givens rowAfter fire round periodicAt triggerFrom sheetOf asks requestAt isDigit value framed checked
     sizeOf mayStand periodicRow placed eventPlace conditionPlace lastPlace triggerRow headerFits frameFits roomFor countsAgree inOrder judgeFrame judgeLine
-    seenAfter tableAfter after byVerdict lineStep atEnd reads lengthsFit
+    seenAfter tableAfter after byVerdict lineStep atEnd walks lengthsFit
     first rolesIn rowsIn goodOrder leveled loopsAt selfCaused givensHeld rolesFound waitsFound readFound tapeFound
 all-pass = refl
 

@@ -21,7 +21,7 @@ use Rattle.judge.specs.Laws.Found.{found-place, found-none}
 use Rattle.line_tests.specs.declared.Seen.{Seen}
 use Rattle.line_acts.specs.Acts.{State, state}
 use Rattle.readings.specs.declared.Reading.the-variants.{Good, Bad}
-use Rattle.hand_out.specs.Out.{Outcome, outcome, sheetRead, handed, byLoop, afterLines}
+use Rattle.hand_out.specs.Out.{outcome, sheetRead, handed, byLoop, afterLines}
 
 -- the test looks at the triggers alone
 read-loop : (s : Seen) (per trg : List ℕ) → loopPlace (sheetRead (state s per trg)) ≡ loopPlace (triggersOf (s .triggers) trg)

@@ -7,7 +7,6 @@ use lib.Dec.{ltb}
 use Rattle.theory.specs.Sheet.{Sheet}
 use Rattle.theory.specs.LoopTest.{PAIRS, loopPlace}
 use Rattle.answers.specs.declared.Name.the-variants.{Loop}
-use Rattle.answers.specs.declared.Refusal.{Refusal}
 use Rattle.tables.specs.Layout.{sheetOf}
 use Rattle.line_tests.specs.declared.Seen.{Seen}
 use Rattle.line_acts.specs.Acts.{State}

@@ -13,7 +13,8 @@ use Rattle.answers.specs.declared.Verdict.the-variants.{Pass, Refuse}
 use Rattle.loops.specs.declared.Found.{Found}
 use Rattle.loops.specs.declared.Found.the-variants.{At, Nothing}
 use Rattle.loops.specs.Tested.{tabulate}
-use Rattle.row_judge.specs.Judge.{refuse, judgeRows, judgeLoop, judgeTables}
+use Rattle.answers.specs.Answers.{refuse}
+use Rattle.row_judge.specs.Judge.{judgeRows, judgeLoop, judgeTables}
 use Rattle.judge.specs.declared.Judged.{Judged}
 
 -- the levels by the verdict on the rows: zeros where these are refused

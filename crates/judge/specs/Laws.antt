@@ -27,7 +27,8 @@ use Rattle.answers.specs.declared.Verdict.{Verdict}
 use Rattle.answers.specs.declared.Verdict.the-variants.{Pass, Refuse}
 use Rattle.loops.specs.Tested.{tested}
 use Rattle.loops.specs.Exact.{levels-say, nothing-says}
-use Rattle.row_judge.specs.Judge.{refuse, andThen, fewRows, rolesFit, rowCount, rowFits, firstUnfit, judgeRows, judgeLoop, judgeTables}
+use Rattle.answers.specs.Answers.{refuse, andThen}
+use Rattle.row_judge.specs.Judge.{fewRows, rolesFit, rowCount, rowFits, firstUnfit, judgeRows, judgeLoop, judgeTables}
 use Rattle.row_judge.specs.Laws.{fits-periodic, fits-trigger, rows-many, rows-roles, rows-fields, fields-at, fields-pass}
 use Rattle.judge.specs.declared.Judged.{Judged}
 use Rattle.judge.specs.Judged.{judged, levelIn, loopJudged}

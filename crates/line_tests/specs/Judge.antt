@@ -3,11 +3,10 @@
 use mathlib.Core.Bool.{Bool, cond, _&&_}
 use mathlib.Core.List.{List}
 use Prim.Native.Nat.{ℕ}
-use Rattle.answers.specs.declared.Name.{Name}
 use Rattle.answers.specs.declared.Name.the-variants.{Frame, Check, Kind, Field, TooMany, Count}
-use Rattle.answers.specs.declared.Refusal.{Refusal}
 use Rattle.answers.specs.declared.Verdict.{Verdict}
-use Rattle.answers.specs.declared.Verdict.the-variants.{Pass, Refuse}
+use Rattle.answers.specs.declared.Verdict.the-variants.{Pass}
+use Rattle.answers.specs.Answers.{refuse}
 use Rattle.text.specs.Framed.{framed}
 use Rattle.frames.specs.Frame.{bytesOf, checked}
 use Rattle.tables.specs.Layout.{byteAt, two}
@@ -16,14 +15,10 @@ use Rattle.row_counts.specs.Counts.{roomFor, countsAgree}
 use Rattle.fields.specs.Fields.{frameFits}
 use Rattle.line_tests.specs.declared.Seen.{Seen}
 
--- a refusal at this line
-abbrev pub refuse : ℕ → Name → Verdict
-refuse place name = Refuse (record { name = name; place = place })
-
 -- the first test that fails gives its refusal: KIND, TOO MANY, FIELD, COUNT
 unfoldable pub inOrder : ℕ → Bool → Bool → Bool → Bool → Verdict
 inOrder place isKind isRoom isField isCount =
-    cond isKind (cond isRoom (cond isField (cond isCount Pass (refuse place Count)) (refuse place Field)) (refuse place TooMany)) (refuse place Kind)
+    cond isKind (cond isRoom (cond isField (cond isCount Pass (refuse Count place)) (refuse Field place)) (refuse TooMany place)) (refuse Kind place)
 
 unfoldable pub judgeFrame : ℕ → Seen → List ℕ → Verdict
 judgeFrame place s f =
@@ -35,4 +30,4 @@ judgeFrame place s f =
 
 -- FRAME, CHECK, then the tests of the frame
 unfoldable pub judgeLine : ℕ → Seen → List ℕ → Verdict
-judgeLine place s l = cond (framed l) (cond (checked (bytesOf l)) (judgeFrame place s (bytesOf l)) (refuse place Check)) (refuse place Frame)
+judgeLine place s l = cond (framed l) (cond (checked (bytesOf l)) (judgeFrame place s (bytesOf l)) (refuse Check place)) (refuse Frame place)

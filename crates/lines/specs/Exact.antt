@@ -10,7 +10,7 @@ use Rattle.text.specs.Lines.{lines}
 use Rattle.line_acts.specs.Acts.{State, state}
 use Rattle.lines.specs.declared.Taken.{Taken}
 use Rattle.lines.specs.declared.Taken.the-variants.{Goes, Refused}
-use Rattle.lines.specs.Line.{goes}
+use Rattle.walks.specs.Walks.{goes}
 use Rattle.lines.specs.Lines.{reads, fresh}
 use Rattle.lines.specs.Laws.Took.{took}
 

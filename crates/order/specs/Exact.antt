@@ -5,7 +5,7 @@ use mathlib.Core.Bool.{Bool}
 use Prim.Native.Nat.{ℕ}
 use Rattle.theory.specs.Laws.Exact.{exact}
 use Rattle.answers.specs.declared.Verdict.{Verdict}
-use Rattle.row_judge.specs.Judge.{andThen}
+use Rattle.answers.specs.Answers.{andThen}
 use Rattle.order.specs.Order.{exactLengths, fewer, judgeFirst}
 
 pub fewer-exact : (n r r′ : ℕ) → r ≡ fewer n → r′ ≡ fewer n → r ≡ r′

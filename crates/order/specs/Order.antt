@@ -8,7 +8,7 @@ use Rattle.answers.specs.declared.Name.the-variants.{Length, TooMany, Last}
 use Rattle.answers.specs.declared.Verdict.{Verdict}
 use Rattle.answers.specs.declared.Verdict.the-variants.{Pass}
 use Rattle.tables.specs.Layout.{PERIODIC-TABLE, TRIGGER-TABLE}
-use Rattle.row_judge.specs.Judge.{refuse}
+use Rattle.answers.specs.Answers.{refuse}
 
 -- the tables and the buffers have their exact lengths
 unfoldable pub exactLengths : ℕ → ℕ → ℕ → ℕ → Bool

@@ -1,9 +1,9 @@
 ghost use mathlib.Core.Path.{_≡_};
-ghost use Rattle.row_judge.specs.Judge.{refuse, andThen};
+ghost use Rattle.answers.specs.Answers.{refuse, andThen};
 ghost use Rattle.order.specs.Order.{exactLengths, fewer, judgeFirst};
 use answers::Name;
-use answers::Refusal;
 use answers::Verdict;
+use answers::refuse;
 use basic::both;
 
 // The number of requests, of which those over 32 are not told apart.
@@ -26,28 +26,18 @@ pub fn lengths_fit(periodics: usize, triggers: usize, waiting: usize, events: us
     )
 }
 
-// A refusal that has no place.
-fn refusal(name: Name) -> Verdict
-    ensures { λ r. ⌜ r ≡ refuse name 0 ⌝ }
-{
-    Verdict::Refuse(Refusal {
-        name: name,
-        place: 0,
-    })
-}
-
 // LENGTH, LAST, TOO MANY of requests.
 pub fn judge_first(fit: bool, t: u32, n: u16) -> Verdict
     ensures { λ r. ⌜ r ≡ judgeFirst fit t n ⌝ }
 {
     if !fit {
-        return refusal(Name::Length);
+        return refuse(Name::Length, 0);
     }
     if 16777215 < t {
-        return refusal(Name::Last);
+        return refuse(Name::Last, 0);
     }
     if 32 < n {
-        return refusal(Name::TooMany);
+        return refuse(Name::TooMany, 0);
     }
     Verdict::Pass
 }

@@ -12,10 +12,11 @@ use Rattle.requests.specs.Requests.{fits, judgeRequests}
 use Rattle.requests.specs.Asked.{requestOf}
 
 -- a request is determined by what it is to the definitions
+pub request-one : (r r′ : Request) → requestOf r ≡ requestOf r′ → r ≡ r′
+request-one r r′ p = λ i. record { event = p i .event; priority = p i .priority; delay = p i .delay }
+
 pub request-at-exact : (asked : List ℕ) (k : ℕ) (r r′ : Request) → requestOf r ≡ requestAt asked k → requestOf r′ ≡ requestAt asked k → r ≡ r′
-request-at-exact asked k r r′ h h′ =
-    let p : requestOf r ≡ requestOf r′ = exact h h′ in
-    λ i. record { event = p i .event; priority = p i .priority; delay = p i .delay }
+request-at-exact asked k r r′ h h′ = request-one r r′ (exact h h′)
 
 pub request-fits-exact : (roles : ℕ) (q : Request) (r r′ : Bool) → r ≡ fits roles (requestOf q) → r′ ≡ fits roles (requestOf q) → r ≡ r′
 request-fits-exact roles q r r′ = exact

@@ -12,7 +12,7 @@ use Rattle.theory.specs.Sheet.{is}
 use Rattle.theory.specs.Laws.Tests.{and-left, and-right, and-both, test}
 use Rattle.theory.specs.Laws.Below.{any-intro, any-elim}
 use Rattle.theory.specs.Laws.Limits.{RequestWithin, request-says}
-use Rattle.theory.specs.Laws.First.{first-past}
+use Rattle.theory.specs.Laws.First.{first-none, first-past}
 use Rattle.answers.specs.declared.Name.the-variants.{Request}
 use Rattle.answers.specs.declared.Verdict.the-variants.{Pass}
 use Rattle.answers.specs.Laws.{no-pass}
@@ -20,7 +20,7 @@ use Rattle.tables.specs.Asked as lent
 use Rattle.tables.specs.Asked.{Asked, asks}
 use Rattle.masks.specs.Joins.{Entry}
 use Rattle.waiting.specs.Waiting.{placeOf}
-use Rattle.row_judge.specs.Judge.{refuse}
+use Rattle.answers.specs.Answers.{refuse}
 use Rattle.requests.specs.Requests.{fits, outside, firstOutside, judgeRequests, givenEntry, waitEntry}
 
 -- ---- what is asked for
@@ -65,6 +65,10 @@ module _ (roleCount : ℕ) (q : Asked) where
       (λ (t : ltb k (q .count) ≡ true). no-pass _ (rw t at h))
       (λ (f : ltb k (q .count) ≡ false). not-false _ (first-past (q .count) (outside roleCount q) (ltb-false _ _ f) i l))
       (test (ltb k (q .count)))
+
+  -- and the other way round
+  pub requests-fit : AllFit roleCount q → judgeRequests roleCount q ≡ Pass
+  requests-fit h = sym (outside-none (sym (first-none (q .count) (outside roleCount q) (λ k l. ap not (h k l)))))
 
 -- ---- the entries, made of what the code read
 

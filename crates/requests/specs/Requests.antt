@@ -12,7 +12,7 @@ use Rattle.tables.specs.Asked as lent
 use Rattle.tables.specs.Asked.{Asked}
 use Rattle.masks.specs.Joins.{Entry}
 use Rattle.waiting.specs.Waiting.{placeOf}
-use Rattle.row_judge.specs.Judge.{refuse}
+use Rattle.answers.specs.Answers.{refuse}
 
 -- a request is within its limits
 abbrev pub fits : ℕ → lent.Request → Bool

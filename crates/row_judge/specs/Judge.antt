@@ -8,10 +8,10 @@ use Rattle.theory.specs.Numbers.{ROLES, PERIODIC-ROWS, TRIGGER-ROWS}
 use Rattle.theory.specs.Below.{firstBelow}
 use Rattle.theory.specs.Sheet.{Sheet, periodicFits, triggerFits}
 use Rattle.theory.specs.LoopTest.{PAIRS, loopPlace}
-use Rattle.answers.specs.declared.Name.{Name}
 use Rattle.answers.specs.declared.Name.the-variants.{Field, TooMany, Loop}
 use Rattle.answers.specs.declared.Verdict.{Verdict}
-use Rattle.answers.specs.declared.Verdict.the-variants.{Pass, Refuse}
+use Rattle.answers.specs.declared.Verdict.the-variants.{Pass}
+use Rattle.answers.specs.Answers.{refuse, andThen}
 use Rattle.tables.specs.Layout.{sheetOf}
 
 -- All that is lent to be read: the tables, how many rows of each are used, and the role count.
@@ -29,14 +29,6 @@ rules roleCount periodicCount triggerCount periodics triggers =
 -- the sheet that they stand for; unused rows, and the places of a trigger past its counts, are in no rule about it
 abbrev pub sheetIn : Rules → Sheet
 sheetIn R = sheetOf (R .roleCount) (R .periodicCount) (R .triggerCount) (R .periodics) (R .triggers)
-
-abbrev pub refuse : Name → ℕ → Verdict
-refuse name place = Refuse (record { name = name; place = place })
-
--- a later test is asked only where those before it pass
-unfoldable pub andThen : Verdict → Verdict → Verdict
-andThen Pass later = later
-andThen (Refuse r) later = Refuse r
 
 -- TOO MANY is not given: neither count of rows is over its limit
 unfoldable pub fewRows : Sheet → Bool

@@ -13,7 +13,8 @@ use Rattle.answers.specs.declared.Name.the-variants.{Field, TooMany}
 use Rattle.answers.specs.declared.Verdict.{Verdict}
 use Rattle.answers.specs.declared.Verdict.the-variants.{Pass}
 use Rattle.tables.specs.Layout.{sheetOf}
-use Rattle.row_judge.specs.Judge.{refuse, fewRows, rolesFit, rowCount, rowFits, firstUnfit, judgeRows}
+use Rattle.answers.specs.Answers.{refuse}
+use Rattle.row_judge.specs.Judge.{fewRows, rolesFit, rowCount, rowFits, firstUnfit, judgeRows}
 use Rattle.row_judge.specs.Parts.{unfitPeriodic, unfitTrigger, judgeFields}
 
 module _ (sh : Sheet) where

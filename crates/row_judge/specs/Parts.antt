@@ -9,7 +9,8 @@ use Rattle.answers.specs.declared.Name.the-variants.{Field}
 use Rattle.answers.specs.declared.Verdict.{Verdict}
 use Rattle.answers.specs.declared.Verdict.the-variants.{Pass}
 use Rattle.tables.specs.Layout.{periodicAt, triggerAt}
-use Rattle.row_judge.specs.Judge.{refuse, rowCount, firstUnfit}
+use Rattle.answers.specs.Answers.{refuse}
+use Rattle.row_judge.specs.Judge.{rowCount, firstUnfit}
 
 -- row k of a periodic table does not hold what it may
 abbrev pub unfitPeriodic : ℕ → List ℕ → ℕ → Bool

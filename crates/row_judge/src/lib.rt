@@ -6,22 +6,13 @@ ghost use Rattle.theory.specs.Numbers.{ROLES, PERIODIC-ROWS, TRIGGER-ROWS};
 ghost use Rattle.theory.specs.Below.{firstBelow};
 ghost use Rattle.theory.specs.Sheet.{periodicFits};
 ghost use Rattle.tables.specs.Layout.{periodicAt, sheetOf};
-ghost use Rattle.row_judge.specs.Judge.{refuse, firstUnfit, judgeRows};
+ghost use Rattle.answers.specs.Answers.{refuse};
+ghost use Rattle.row_judge.specs.Judge.{firstUnfit, judgeRows};
 ghost use Rattle.row_judge.specs.Parts.{unfitPeriodic, unfitTrigger, judgeFields};
 use answers::Name;
-use answers::Refusal;
 use answers::Verdict;
+use answers::refuse;
 use basic::both;
-
-// The verdict that gives a refusal.
-fn refused(name: Name, place: u32) -> Verdict
-    ensures { λ r. ⌜ r ≡ refuse name place ⌝ }
-{
-    Verdict::Refuse(Refusal {
-        name: name,
-        place: place,
-    })
-}
 
 // ---- FIELD of the rows
 
@@ -87,7 +78,7 @@ fn fields_judged(roles: u8, p: u16, t: u16, periodics: &[u8], triggers: &[u8]) -
     let first = first_unfit(roles, p, t, periodics, triggers);
     let rows = row_place(p, t);
     if first < rows {
-        return refused(Name::Field, first);
+        return refuse(Name::Field, first);
     }
     Verdict::Pass
 }
@@ -118,7 +109,7 @@ pub fn rows_judged(roles: u8, p: u16, t: u16, periodics: &[u8], triggers: &[u8])
         if fit {
             return fields_judged(roles, p, t, periodics, triggers);
         }
-        return refused(Name::Field, 0);
+        return refuse(Name::Field, 0);
     }
-    refused(Name::TooMany, 0)
+    refuse(Name::TooMany, 0)
 }

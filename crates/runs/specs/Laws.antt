@@ -2,14 +2,11 @@
 -- Assumes nothing.
 use mathlib.Core.Path.{_≡_, refl, sym, ap, _∙_, fun-ext, subst}
 use mathlib.Core.Logic.{by-cases}
-use mathlib.Core.Bool.{true, false}
+use mathlib.Core.Bool.{true}
 use mathlib.Core.List.{List}
-use Prim.Native.Nat.{ℕ, zero, suc, _+_, _*_, _<_}
+use Prim.Native.Nat.{ℕ, zero, suc, _<_}
 use native.Mathlib.Decide.{decLt}
 use native.Mathlib.Omega.{arith}
-use lib.ListN.{replicate, getD-replicate}
-use borrow.Author.Tests.{lt-ltb, le-ltb}
-use Rattle.theory.specs.Numbers.{EVENTS, WAITING-ROWS, WAITING-NUMBERS}
 use Rattle.theory.specs.Sheet.{Sheet, GoodOrder}
 use Rattle.theory.specs.Instant.{Requests, requestFits}
 use Rattle.theory.specs.Graph.{NoLoop}
@@ -21,19 +18,13 @@ use Rattle.tables.specs.Layout.{sheetOf}
 use Rattle.tables.specs.Buffers.{rolesOf, eventsOf, waitingOf}
 use Rattle.tables.specs.Asked.{Asked, asks}
 use Rattle.masks.specs.Laws.Bits.{bit-none}
+use Rattle.masks.specs.Laws.Held.{waiting-none}
 use Rattle.row_judge.specs.Judge.{Rules, sheetIn}
 use Rattle.judge.specs.Laws.{judge-passes}
 use Rattle.requests.specs.Laws.{asks-elim, requests-pass}
 use Rattle.step.specs.Outcome.{Lent, stateIn}
 use Rattle.step.specs.Laws.Passes.{Accepted, step-passes}
 use Rattle.runs.specs.Runs.{HandedOn, Steps, GoesOn, IsPapers}
-
--- a fresh buffer holds nothing
-zeros-none : (k e p : ℕ) → k < WAITING-ROWS → waitingOf (replicate WAITING-NUMBERS 0) k e p ≡ false
-zeros-none k e p l =
-    by-cases (decLt e EVENTS)
-    (λ (h : e < EVENTS). rw (lt-ltb e EVENTS h, getD-replicate {A = ℕ} WAITING-NUMBERS (EVENTS * k + e) 0 0 (omega arith)) (bit-none p))
-    (λ (h : ¬ (e < EVENTS)). rw (le-ltb e EVENTS (omega arith)) refl)
 
 -- the same state, whatever the events buffers hold
 handed-state : (a b : Lent) → HandedOn a b → stateIn b ≡ stateIn a
@@ -83,7 +74,7 @@ module _ (n : ℕ) (R : Rules) (asked : ℕ → Asked) (before after : ℕ → L
           fresh = record {
             instant = steps .fresh .instant;
             roles = λ r. ap (λ (x : ℕ). rolesOf x r) (steps .fresh .roles) ∙ bit-none r;
-            waiting = λ k e p l. ap (λ (w : List ℕ). waitingOf w k e p) (steps .fresh .waiting) ∙ zeros-none k e p l;
+            waiting = λ k e p l. ap (λ (w : List ℕ). waitingOf w k e p) (steps .fresh .waiting) ∙ waiting-none k e p l;
           };
           step = λ t l.
               let x : Step sh (asks (asked t)) (stateIn (before t)) (eventsOf (after t .events)) (stateIn (after t)) = steps .ok t l .passed refl .step in

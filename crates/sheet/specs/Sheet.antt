@@ -7,11 +7,10 @@ use lib.Dec.{leb, eqb}
 use lib.ListN.{length, replicate}
 use Rattle.theory.specs.Numbers.{SHEET-BYTES}
 use Rattle.answers.specs.declared.Name.the-variants.{Length}
-use Rattle.answers.specs.declared.Refusal.{Refusal}
 use Rattle.text.specs.Lines.{lines}
 use Rattle.tables.specs.Layout.{PERIODIC-TABLE, TRIGGER-TABLE}
 use Rattle.line_acts.specs.Acts.{State, state}
-use Rattle.lines.specs.Line.{Step, goes, refused}
+use Rattle.walks.specs.Walks.{Going, goes, refused}
 use Rattle.lines.specs.Lines.{reads, fresh}
 use Rattle.readings.specs.declared.Reading.the-variants.{Bad}
 use Rattle.hand_out.specs.Out.{Outcome, outcome, afterLines}
@@ -21,7 +20,7 @@ abbrev pub start : State
 start = state fresh (replicate PERIODIC-TABLE 0) (replicate TRIGGER-TABLE 0)
 
 -- a refusal leaves the lent tables p and t as they came; on success they hold the rows in sheet order and are otherwise zero
-unfoldable pub byStep : Step → List ℕ → List ℕ → Outcome
+unfoldable pub byStep : Going State → List ℕ → List ℕ → Outcome
 byStep (refused r) p t = outcome (Bad r) p t
 byStep (goes s) p t = afterLines s p t
 

@@ -4,7 +4,7 @@ ghost use lib.ListN.{length};
 ghost use Rattle.theory.specs.Numbers.{SHEET-BYTES};
 ghost use Rattle.text.specs.Lines.{lines};
 ghost use Rattle.tables.specs.Layout.{PERIODIC-TABLE, TRIGGER-TABLE};
-ghost use Rattle.lines.specs.Line.{goes};
+ghost use Rattle.walks.specs.Walks.{goes};
 ghost use Rattle.lines.specs.Lines.{reads};
 ghost use Rattle.hand_out.specs.Out.{outcome};
 ghost use Rattle.sheet.specs.Sheet.{start, byStep, lengthsFit, reading};

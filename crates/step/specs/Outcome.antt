@@ -14,7 +14,8 @@ use Rattle.answers.specs.declared.Verdict.{Verdict}
 use Rattle.answers.specs.declared.Verdict.the-variants.{Pass, Refuse}
 use Rattle.tables.specs.Buffers.{rolesOf, eventsOf, waitingOf}
 use Rattle.tables.specs.Asked.{Asked, asks}
-use Rattle.row_judge.specs.Judge.{Rules, sheetIn, refuse, andThen, judgeTables}
+use Rattle.answers.specs.Answers.{refuse, andThen}
+use Rattle.row_judge.specs.Judge.{Rules, sheetIn, judgeTables}
 use Rattle.order.specs.Order.{exactLengths}
 use Rattle.requests.specs.Requests.{judgeRequests}
 

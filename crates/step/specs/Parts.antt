@@ -12,7 +12,8 @@ use Rattle.answers.specs.declared.Verdict.{Verdict}
 use Rattle.answers.specs.declared.Verdict.the-variants.{Pass, Refuse}
 use Rattle.tables.specs.Layout.{byteAt}
 use Rattle.tables.specs.Asked.{Asked}
-use Rattle.row_judge.specs.Judge.{Rules, sheetIn, andThen, judgeTables}
+use Rattle.answers.specs.Answers.{andThen}
+use Rattle.row_judge.specs.Judge.{Rules, sheetIn, judgeTables}
 use Rattle.requests.specs.Requests.{judgeRequests}
 use Rattle.requests.specs.Laws.{AllFit}
 use Rattle.step.specs.Outcome.{Lent, Stepped}

@@ -18,7 +18,7 @@ use Rattle.text.specs.Lines.{lines}
 use Rattle.readings.specs.declared.Read.{Read}
 use Rattle.readings.specs.declared.Reading.the-variants.{Good}
 use Rattle.line_acts.specs.Acts.{State}
-use Rattle.lines.specs.Line.{Step, goes, refused}
+use Rattle.walks.specs.Walks.{Going, goes, refused}
 use Rattle.lines.specs.Lines.{reads}
 use Rattle.hand_out.specs.Out.{outcome, sheetRead, handed, byLoop}
 use Rattle.sheet.specs.Sheet.{start, byStep, lengthsFit, reading}
@@ -32,14 +32,14 @@ same-is (a ∷ k) [] h = absurd (false≢true h)
 same-is (a ∷ k) (b ∷ l) h = let x : a ≡ b = eqb-true a b (and-left (eqb a b) (same k l) h) in let y : k ≡ l = same-is k l (and-right (eqb a b) (same k l) h) in λ i. x i ∷ y i
 
 -- the lines were read to a state with these counts and tables
-record ReadTo (x : Step) (r : Read) (p t : List ℕ) : Type 0 where
+record ReadTo (x : Going State) (r : Read) (p t : List ℕ) : Type 0 where
   found : State
   goes-on : x ≡ goes found
   hands : handed (found .seen) ≡ r
   periodic : found .periodic ≡ p
   triggers : found .triggers ≡ t
 
-read-to : (x : Step) (r : Read) (p t : List ℕ) → readTo x r p t ≡ true → ReadTo x r p t
+read-to : (x : Going State) (r : Read) (p t : List ℕ) → readTo x r p t ≡ true → ReadTo x r p t
 read-to (goes s) r p t h =
     let a : Bool = eqb (s .seen .roles) (r .roles) in
     let b : Bool = eqb (s .seen .periodics) (r .periodics) in

@@ -17,7 +17,8 @@ use Rattle.answers.specs.declared.Verdict.the-variants.{Pass, Refuse}
 use Rattle.tables.specs.Layout.{sheetOf, triggersOf}
 use Rattle.loops.specs.Tested.{tabulate, tested}
 use Rattle.loops.specs.declared.Tested.{Tested}
-use Rattle.row_judge.specs.Judge.{refuse, andThen, judgeRows, judgeLoop, judgeTables}
+use Rattle.answers.specs.Answers.{refuse, andThen}
+use Rattle.row_judge.specs.Judge.{judgeRows, judgeLoop, judgeTables}
 use Rattle.judge.specs.declared.Judged.{Judged}
 use Rattle.judge.specs.Judged.{levelsAfter, judged, loopVerdict, loopJudged}
 use Rattle.judge.specs.Laws.Found.{loop-verdict-is}

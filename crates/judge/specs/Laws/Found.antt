@@ -14,7 +14,8 @@ use Rattle.theory.specs.Laws.Tests.{test}
 use Rattle.answers.specs.declared.Name.the-variants.{Loop}
 use Rattle.answers.specs.declared.Verdict.the-variants.{Pass}
 use Rattle.loops.specs.Tested.{foundAt}
-use Rattle.row_judge.specs.Judge.{refuse, judgeLoop}
+use Rattle.answers.specs.Answers.{refuse}
+use Rattle.row_judge.specs.Judge.{judgeLoop}
 use Rattle.judge.specs.Judged.{loopVerdict}
 
 -- a place below the number of pairs is LOOP there

@@ -2,14 +2,16 @@
 -- A line is at least one byte, so there are no more lines than bytes. The measure is what is left of the sheet.
 -- Assumes nothing.
 use mathlib.Core.Path.{_≡_, sym, _∙_}
-use Prim.Native.Nat.{_+_, _-_, _≤_, _<_}
+use Prim.Native.Nat.{_-_, _≤_, _<_}
 use lib.ListN.{length, drop}
 use Rattle.text.specs.Lines.{lines}
 use Rattle.text.specs.Laws.Lines.{end-le}
 use Rattle.line_acts.specs.Acts.{state}
-use Rattle.lines.specs.Line.{goes}
-use Rattle.lines.specs.Lines.{reads, fresh}
-use Rattle.lines.specs.Laws.Lines.{reads-endless, reads-none, turn-goes, turn-stops}
+use Rattle.walks.specs.Walks.{goes}
+use Rattle.lines.specs.Lines.{sheetReader, reads, fresh}
+use Rattle.walks.specs.Laws.{walks-endless, walks-none, turn-goes, turn-stops}
+use Rattle.lines.specs.Laws.Lines.{line-next}
+use Rattle.lines.specs.Laws.Took.{went, stopped}
 use borrow.Author.Needs.{needs}
 use native.Mathlib.Omega.{arith}
 use Rattle.lines.proofs.read_lines.Statement.{statement}
@@ -43,7 +45,7 @@ returns : tie.Need-returns Inv-loop μ-loop
 returns c =
     let d = c .before .before in
     let l = d .before .before in
-    sym (sym (l .loop .inv .1 .1) ∙ reads-endless _ _ _ (d .line-end .ensures) _ (d .before .loop-test .taken) (c .before .if1 .taken))
+    sym (sym (l .loop .inv .1 .1) ∙ walks-endless sheetReader _ _ _ (d .line-end .ensures) _ (d .before .loop-test .taken) (c .before .if1 .taken))
 
 sub-take : tie.Need-sub-take Inv-loop μ-loop
 sub-take c = search needs
@@ -82,8 +84,10 @@ loop-again c =
     let l = d .before .before in
     let h = end-le (l .before .before .before .before .args .sheet .now) (l .loop .at) (d .line-end .result) (d .line-end .ensures) (l .loop .inv .0 .0) in
     let i : d .line-end .result < length (l .before .before .before .before .args .sheet .now) = omega (arith, j .if1 .left) in
-    let g = turn-goes _ _ _ (d .line-end .ensures) i _ _ (l .loop .inv .1 .1) _ _ _ (k .take .ensures) _ (c .before .w .given .1) in
-    ((search needs, omega (arith, g .0, d .line-end .ensures, l .loop .inv .0 .1)), ((search needs, search needs), g .1))
+    let w = sym (went _ _ _ _ _ (k .take .ensures) (c .before .w .given .1)) in
+    let n = line-next _ _ _ w in
+    let g = turn-goes sheetReader _ _ _ (d .line-end .ensures) _ i _ (l .loop .inv .1 .1) _ w in
+    ((search needs, omega (arith, n, d .line-end .ensures, l .loop .inv .0 .1)), ((search needs, search needs), g))
 
 enum-known-w-2 : tie.Need-enum-known-w-2 Inv-loop μ-loop
 enum-known-w-2 c = search needs
@@ -102,7 +106,7 @@ returns-2 c =
     let l = d .before .before in
     let h = end-le (l .before .before .before .before .args .sheet .now) (l .loop .at) (d .line-end .result) (d .line-end .ensures) (l .loop .inv .0 .0) in
     let i : d .line-end .result < length (l .before .before .before .before .args .sheet .now) = omega (arith, j .if1 .left) in
-    turn-stops _ _ _ (d .line-end .ensures) i _ _ (l .loop .inv .1 .1) _ _ _ (k .take .ensures) _ (c .before .w2 .given .1)
+    turn-stops sheetReader _ _ _ (d .line-end .ensures) _ i _ (l .loop .inv .1 .1) _ (sym (stopped _ _ _ _ _ (k .take .ensures) (c .before .w2 .given .1)))
 
 at-end-requires : tie.Need-at-end-requires Inv-loop μ-loop
 at-end-requires c κs = search needs
@@ -117,7 +121,7 @@ returns-3 : tie.Need-returns-3 Inv-loop μ-loop
 returns-3 c =
     let l = c .before .before in
     c .at-end .ensures _ _
-    ∙ (sym (reads-none (l .before .before .before .before .args .sheet .now) (l .loop .at) (state (l .loop .s) (l .loop .periodics) (l .loop .triggers)) (search needs)) ∙ l .loop .inv .1 .1)
+    ∙ (sym (walks-none sheetReader (l .before .before .before .before .args .sheet .now) (l .loop .at) (state (l .loop .s) (l .loop .periodics) (l .loop .triggers)) (search needs)) ∙ l .loop .inv .1 .1)
 
 pub read-lines-spec : {M : Type 1} → statement M
 read-lines-spec =

@@ -2,7 +2,8 @@
 -- Assumes nothing.
 use mathlib.Core.Path.{sym, ap, _∙_}
 use Rattle.line_tests.specs.Laws.{passes-room}
-use Rattle.lines.specs.Line.{goes, byVerdict, lineStep}
+use Rattle.walks.specs.Walks.{goes}
+use Rattle.lines.specs.Line.{byVerdict, lineStep}
 use borrow.Author.Needs.{needs}
 use Rattle.lines.proofs.take.Statement.{statement}
 use Rattle.lines.proofs.take.Tie as tie

@@ -47,11 +47,11 @@ bit-none p = bit-high 0 0 p (omega arith) (omega arith)
 
 -- ---- the lowest weight, and the others
 
-bit-zero : (n : ℕ) → bit n 0 ≡ eqb (n % 2) 1
+pub bit-zero : (n : ℕ) → bit n 0 ≡ eqb (n % 2) 1
 unfolding bit
 bit-zero n = rw div-one refl
 
-bit-suc : (n p : ℕ) → bit n (suc p) ≡ bit (n / 2) p
+pub bit-suc : (n p : ℕ) → bit n (suc p) ≡ bit (n / 2) p
 unfolding bit
 bit-suc n p =
     let e : 1 + p ≡ suc p = omega arith in

@@ -8,7 +8,7 @@ use Prim.Native.Nat.{ℕ, zero, suc, _+_, _*_, _/_, _%_, _^_, _<_}
 use native.Mathlib.Nat.{pow-suc}
 use native.Mathlib.Omega.{arith}
 use lib.Dec.{ltb}
-use lib.ListN.{length, getD}
+use lib.ListN.{length, getD, replicate, getD-replicate}
 use lib.Pow.{pow-mono}
 use lib.Seq.{ext-getD}
 use borrow.Author.Tests.{ltb-true, ltb-false, lt-ltb}
@@ -17,7 +17,7 @@ use Rattle.theory.specs.Events.{Events}
 use Rattle.theory.specs.Laws.Tests.{test, is-false}
 use Rattle.theory.specs.Laws.OneSolution.{InBuffer}
 use Rattle.tables.specs.Buffers.{bit, rolesOf, eventsOf, waitingOf}
-use Rattle.masks.specs.Laws.Bits.{bit-ext, bits-of}
+use Rattle.masks.specs.Laws.Bits.{bit-none, bit-ext, bits-of}
 
 -- ---- equal sets are equal buffers
 
@@ -55,6 +55,14 @@ waiting-one l l′ n n′ h =
     numbers-one l l′ (n ∙ sym n′) (λ i p m.
     let z : EVENTS * (i / EVENTS) + i % EVENTS ≡ i = omega arith in
     rw (← z) (of-event (i % EVENTS) _ _ (omega arith) (h (i / EVENTS) (i % EVENTS) p (omega arith))))
+
+-- a waiting buffer of zeros holds nothing
+pub waiting-none : (k e p : ℕ) → k < WAITING-ROWS → waitingOf (replicate WAITING-NUMBERS 0) k e p ≡ false
+waiting-none k e p l =
+    ⊎-elim
+    (λ (h : ltb e EVENTS ≡ true). rw (h, getD-replicate {A = ℕ} WAITING-NUMBERS (EVENTS * k + e) 0 0 (omega (arith, ltb-true e EVENTS h))) (bit-none p))
+    (λ (h : ltb e EVENTS ≡ false). rw h refl)
+    (test (ltb e EVENTS))
 
 -- ---- every set that fits is held
 

@@ -1,6 +1,6 @@
 -- `order::and_then` meets its contract: by the first verdict.
 -- Assumes nothing.
-use Rattle.row_judge.specs.Judge.{andThen}
+use Rattle.answers.specs.Answers.{andThen}
 use borrow.Author.Needs.{needs}
 use Rattle.order.proofs.and_then.Statement.{statement}
 use Rattle.order.proofs.and_then.Tie as tie

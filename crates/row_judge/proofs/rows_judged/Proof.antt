@@ -25,8 +25,8 @@ returns c =
     let a = r .before .before .before .before .args in
     rows-fields (sheetOf (a .roles) (a .p) (a .t) (a .periodics .now) (a .triggers .now)) _ (r .before .few-rows .ensures) _ (r .roles-fit .ensures) (t .before .if1 .taken) (t .if2 .taken) _ (c .fields-judged .ensures)
 
-refused-requires : tie.Need-refused-requires
-refused-requires c κs = search needs
+refuse-requires : tie.Need-refuse-requires
+refuse-requires c κs = search needs
 
 returns-2 : tie.Need-returns-2
 unfolding sheetOf fewRows rolesFit
@@ -34,17 +34,17 @@ returns-2 c =
     let t = c .before in
     let r = t .before .before in
     let a = r .before .before .before .before .args in
-    c .refused .ensures ∙ rows-roles (sheetOf (a .roles) (a .p) (a .t) (a .periodics .now) (a .triggers .now)) _ (r .before .few-rows .ensures) _ (r .roles-fit .ensures) (t .before .if1 .taken) (t .if2 .left)
+    c .refuse .ensures ∙ rows-roles (sheetOf (a .roles) (a .p) (a .t) (a .periodics .now) (a .triggers .now)) _ (r .before .few-rows .ensures) _ (r .roles-fit .ensures) (t .before .if1 .taken) (t .if2 .left)
 
-refused-requires-2 : tie.Need-refused-requires-2
-refused-requires-2 c κs = search needs
+refuse-requires-2 : tie.Need-refuse-requires-2
+refuse-requires-2 c κs = search needs
 
 returns-3 : tie.Need-returns-3
 unfolding sheetOf fewRows
 returns-3 c =
     let f = c .before .before .before in
     let a = f .before .before .before .args in
-    c .refused2 .ensures ∙ rows-many (sheetOf (a .roles) (a .p) (a .t) (a .periodics .now) (a .triggers .now)) _ (f .few-rows .ensures) (c .before .if1 .left)
+    c .refuse2 .ensures ∙ rows-many (sheetOf (a .roles) (a .p) (a .t) (a .periodics .now) (a .triggers .now)) _ (f .few-rows .ensures) (c .before .if1 .left)
 
 pub rows-judged-spec : {M : Type 1} → statement M
 rows-judged-spec =
@@ -54,7 +54,7 @@ rows-judged-spec =
     roles-fit-requires
     fields-judged-requires
     returns
-    refused-requires
+    refuse-requires
     returns-2
-    refused-requires-2
+    refuse-requires-2
     returns-3)

@@ -1,7 +1,8 @@
 -- `sheet::read_within` meets its contract: what the lines made goes to the loop test, or is the refusal.
 -- Assumes nothing.
 use mathlib.Core.Path.{ap, _∙_}
-use Rattle.lines.specs.Line.{Step}
+use Rattle.walks.specs.Walks.{Going}
+use Rattle.line_acts.specs.Acts.{State}
 use Rattle.sheet.specs.Sheet.{byStep}
 use Rattle.lines.specs.Laws.Took.{went, stopped}
 use borrow.Author.Needs.{needs}
@@ -46,14 +47,14 @@ returns c =
     let l = w .before .before .before .before in
     let s = l .before .before .before .before .before .before in
     h .hand-out .ensures
-    ∙ ap (λ (x : Step). byStep x (s .args .periodics .now) (s .args .triggers .now)) (went _ _ _ _ _ (l .read-lines .ensures) (w .w .given .1))
+    ∙ ap (λ (x : Going State). byStep x (s .args .periodics .now) (s .args .triggers .now)) (went _ _ _ _ _ (l .read-lines .ensures) (w .w .given .1))
 
 returns-2 : tie.Need-returns-2
 unfolding byStep
 returns-2 c =
     let l = c .before .before .before .before .before in
     let s = l .before .before .before .before .before .before in
-    ap (λ (x : Step). byStep x (s .args .periodics .now) (s .args .triggers .now)) (stopped _ _ _ _ _ (l .read-lines .ensures) (c .before .w2 .given .1))
+    ap (λ (x : Going State). byStep x (s .args .periodics .now) (s .args .triggers .now)) (stopped _ _ _ _ _ (l .read-lines .ensures) (c .before .w2 .given .1))
 
 pub read-within-spec : {M : Type 1} → statement M
 read-within-spec =

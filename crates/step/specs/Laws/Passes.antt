@@ -7,18 +7,19 @@ use Prim.Native.Nat.{ℕ, _≤_}
 use native.Mathlib.Omega.{arith}
 use lib.Dec.{leb, eqb}
 use lib.ListN.{length}
-use borrow.Author.Tests.{leb-true, eqb-true}
+use borrow.Author.Tests.{leb-true, le-leb, eqb-true, eq-eqb}
 use Rattle.theory.specs.Numbers.{EVENTS, LAST-INSTANT, REQUESTS, WAITING-NUMBERS}
 use Rattle.theory.specs.Laws.Tests.{and-left, and-right, test}
 use Rattle.answers.specs.declared.Name.{Name}
 use Rattle.answers.specs.declared.Name.the-variants.{Length, TooMany, Last}
 use Rattle.answers.specs.declared.Verdict.{Verdict}
 use Rattle.answers.specs.declared.Verdict.the-variants.{Pass, Refuse}
-use Rattle.answers.specs.Laws.{no-pass}
+use Rattle.answers.specs.Laws.{cond-pass, both-pass}
 use Rattle.theory.specs.Graph.{Levels}
 use Rattle.tables.specs.Layout.{byteAt, PERIODIC-TABLE, TRIGGER-TABLE}
 use Rattle.tables.specs.Asked.{Asked}
-use Rattle.row_judge.specs.Judge.{Rules, sheetIn, refuse, andThen, judgeTables}
+use Rattle.answers.specs.Answers.{refuse, andThen}
+use Rattle.row_judge.specs.Judge.{Rules, sheetIn, judgeTables}
 use Rattle.judge.specs.declared.Judged.{Judged}
 use Rattle.judge.specs.Judged.{judged}
 use Rattle.judge.specs.Laws.{judge-passes, judged-levels}
@@ -28,27 +29,14 @@ use Rattle.requests.specs.Laws.{requests-pass}
 use Rattle.step.specs.Outcome.{Lent, lengthsFit, judgeStep}
 use Rattle.step.specs.Parts.{Sound}
 
--- ---- verdicts
-
--- both pass
-pub both-pass : (v w : Verdict) → andThen v w ≡ Pass → (v ≡ Pass) × (w ≡ Pass)
-unfolding andThen
-both-pass Pass w e = (refl, e)
-both-pass (Refuse r) w e = no-pass r e
-
--- where a test that must hold does not, there is a refusal
-cond-pass : (b : Bool) (v : Verdict) (name : Name) → cond b v (refuse name 0) ≡ Pass → (b ≡ true) × (v ≡ Pass)
-cond-pass true v name e = (refl, e)
-cond-pass false v name e = no-pass _ e
-
 -- ---- the tests before the tables
 
 pub first-says : (fit : Bool) (t n : ℕ) → judgeFirst fit t n ≡ Pass → (fit ≡ true) × (t ≤ LAST-INSTANT) × (n ≤ REQUESTS)
 unfolding judgeFirst
 first-says fit t n h =
-    let a = cond-pass fit _ _ h in
-    let b = cond-pass (leb t LAST-INSTANT) _ _ (a .1) in
-    let c = cond-pass (leb n REQUESTS) _ _ (b .1) in
+    let a = cond-pass fit _ _ _ h in
+    let b = cond-pass (leb t LAST-INSTANT) _ _ _ (a .1) in
+    let c = cond-pass (leb n REQUESTS) _ _ _ (b .1) in
     (a .0, leb-true t LAST-INSTANT (b .0), leb-true n REQUESTS (c .0))
 
 -- the number of requests is told apart as far as it matters
@@ -124,11 +112,26 @@ pub record Accepted (R : Rules) (q : Asked) (l : Lent) : Type 0 where
 pub step-passes : (R : Rules) (q : Asked) (l : Lent) → judgeStep R q l ≡ Pass → Accepted R q l
 unfolding judgeStep
 step-passes R q l h =
-    let a = cond-pass (lengthsFit R l) _ _ h in
-    let b = cond-pass (leb (l .instant) LAST-INSTANT) _ _ (a .1) in
-    let c = cond-pass (leb (q .count) REQUESTS) _ _ (b .1) in
+    let a = cond-pass (lengthsFit R l) _ _ _ h in
+    let b = cond-pass (leb (l .instant) LAST-INSTANT) _ _ _ (a .1) in
+    let c = cond-pass (leb (q .count) REQUESTS) _ _ _ (b .1) in
     let d = both-pass (judgeTables (sheetIn R)) (judgeRequests (R .roleCount) q) (c .1) in
     record { lengths = lengths-say R l (a .0); served = leb-true _ _ (b .0); few = leb-true _ _ (c .0); tables = d .0; requests = d .1 }
+
+-- and the other way round: what has all of that passes
+pub step-accepts : (R : Rules) (q : Asked) (l : Lent) → Accepted R q l → judgeStep R q l ≡ Pass
+unfolding judgeStep lengthsFit exactLengths andThen
+step-accepts R q l a =
+    let n = a .lengths in
+    rw (
+      eq-eqb _ _ (n .periodics),
+      eq-eqb _ _ (n .triggers),
+      eq-eqb _ _ (n .waiting),
+      eq-eqb _ _ (n .events),
+      le-leb _ _ (a .served),
+      le-leb _ _ (a .few),
+      a .tables,
+    ) (a .requests)
 
 -- ---- what the judge hands on
 

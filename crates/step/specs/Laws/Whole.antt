@@ -11,7 +11,8 @@ use Rattle.answers.specs.declared.Verdict.{Verdict}
 use Rattle.answers.specs.declared.Verdict.the-variants.{Pass, Refuse}
 use Rattle.tables.specs.Asked.{Asked, flat}
 use Rattle.judge.specs.declared.Judged.{Judged}
-use Rattle.row_judge.specs.Judge.{Rules, sheetIn, andThen, judgeTables}
+use Rattle.answers.specs.Answers.{andThen}
+use Rattle.row_judge.specs.Judge.{Rules, sheetIn, judgeTables}
 use Rattle.judge.specs.Judged.{judged}
 use Rattle.minute.specs.Minute.{Acted}
 use Rattle.order.specs.Order.{fewer, judgeFirst}

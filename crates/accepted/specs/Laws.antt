@@ -1,0 +1,8 @@
+-- The way there: a row in its table, what a line that passed has, and what was read so far.
+pub mod Rows
+pub mod Tables
+pub mod Passed
+pub mod After
+pub mod SoFar
+pub mod Kept
+pub mod Lines

@@ -1,0 +1,56 @@
+-- What was read, after each kind of frame: the header's role count, one row more in its table, or the end.
+-- Assumes nothing.
+use mathlib.Core.Path.{_≡_, refl}
+use mathlib.Core.List.{List}
+use Prim.Native.Nat.{ℕ, _+_, _*_}
+use lib.Seq.{paste}
+use Rattle.tables.specs.Layout.{PERIODIC-BYTES, TRIGGER-BYTES, byteAt}
+use Rattle.periodic_frames.specs.Row.{periodicRow}
+use Rattle.periodic_frames.specs.Laws.{length-periodic}
+use Rattle.trigger_frames.specs.Row.{triggerRow}
+use Rattle.trigger_frames.specs.Laws.{length-trigger}
+use Rattle.kinds.specs.declared.Stage.the-variants.{Rows, Ended}
+use Rattle.kinds.specs.Kinds.{HEADER, PERIODIC, TRIGGER, END, kind}
+use Rattle.line_acts.specs.Acts.{seenAfter, tableAfter, State, state, after}
+
+module _ (s : State) (f : List ℕ) where
+  abbrev n : ℕ
+  n = s .seen .periodics
+
+  abbrev m : ℕ
+  m = s .seen .triggers
+
+  -- the tables with the frame's row
+  abbrev periodicMore : List ℕ
+  periodicMore = paste (s .periodic) (PERIODIC-BYTES * n) (periodicRow f) PERIODIC-BYTES
+
+  abbrev triggerMore : List ℕ
+  triggerMore = paste (s .triggers) (TRIGGER-BYTES * m) (triggerRow f) TRIGGER-BYTES
+
+  abbrev pub withHeader : State
+  withHeader = state (record { line = s .seen .line + 1; stage = Rows; roles = byteAt f 2; periodics = n; triggers = m }) (s .periodic) (s .triggers)
+
+  abbrev pub withPeriodic : State
+  withPeriodic = state (record { line = s .seen .line + 1; stage = Rows; roles = s .seen .roles; periodics = n + 1; triggers = m }) periodicMore (s .triggers)
+
+  abbrev pub withTrigger : State
+  withTrigger = state (record { line = s .seen .line + 1; stage = Rows; roles = s .seen .roles; periodics = n; triggers = m + 1 }) (s .periodic) triggerMore
+
+  abbrev pub withEnd : State
+  withEnd = state (record { line = s .seen .line + 1; stage = Ended; roles = s .seen .roles; periodics = n; triggers = m }) (s .periodic) (s .triggers)
+
+  pub after-header : kind f ≡ HEADER → after s f ≡ withHeader
+  unfolding after seenAfter tableAfter
+  after-header k = rw k refl
+
+  pub after-periodic : kind f ≡ PERIODIC → after s f ≡ withPeriodic
+  unfolding after seenAfter tableAfter
+  after-periodic k = rw (k, length-periodic f) refl
+
+  pub after-trigger : kind f ≡ TRIGGER → after s f ≡ withTrigger
+  unfolding after seenAfter tableAfter
+  after-trigger k = rw (k, length-trigger f) refl
+
+  pub after-end : kind f ≡ END → after s f ≡ withEnd
+  unfolding after seenAfter tableAfter
+  after-end k = rw k refl

@@ -1,0 +1,4 @@
+-- The requests of one instant in a tape.
+pub mod Batch
+pub mod Laws
+pub mod Exact

@@ -1,0 +1,18 @@
+// The day program: it reads an input from standard input and prints its day. (No contract can say what is read or written: all that is to be believed stands in `days`.)
+
+// Prints the day of an input, by way of a buffer that is lent for it.
+fn print(input: &[u8], out: &mut [u8]) {
+    let printed = days::day(input, out);
+    let n = printed.length;
+    if n <= out.len() {
+        io::write_all(1, &out[0..n]);
+    }
+}
+
+// One byte more than an input may have is read, so that one that is too long is seen.
+fn main() {
+    let mut input = [0u8; 65537];
+    let mut out = [0u8; 312511];
+    let got = io::read_full(0, &mut input);
+    print(&input[0..got], &mut out);
+}

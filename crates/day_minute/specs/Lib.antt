@@ -1,0 +1,4 @@
+-- A minute of a day.
+pub mod Minute
+pub mod Laws
+pub mod Exact

@@ -1,0 +1,50 @@
+ghost use Rattle.row_judge.specs.Judge.{rules};
+ghost use Rattle.step.specs.Outcome.{lent};
+ghost use Rattle.day_minute.specs.Minute.{MinuteOutcome};
+use answers::Verdict;
+
+// What came of a minute: the step's answer, where the tape goes on, and the roles after it.
+pub struct Turn {
+    pub verdict: Verdict,
+    pub next: usize,
+    pub roles: u64,
+}
+
+// A minute of a day: the requests of the next instant that stand in the tape at `at` and on, and a step with them. It prints nothing.
+pub fn day_minute(
+    roles: u8,
+    periodic_count: u16,
+    trigger_count: u16,
+    periodics: &[u8],
+    triggers: &[u8],
+    tape: &[u8],
+    at: usize,
+    instant: &mut u32,
+    enabled: &mut u64,
+    waiting: &mut [u16],
+    events: &mut [u16],
+) -> Turn
+    ensures { λ r. ⌜ MinuteOutcome (rules roles «periodic_count» «trigger_count» (now (periodics .entry)) (now (triggers .entry))) (now (tape .entry)) at (lent (now (instant .entry)) (now (enabled .entry)) (now (waiting .entry)) (now (events .entry))) r (lent (now (instant .exit)) (now (enabled .exit)) (now (waiting .exit)) (now (events .exit))) ⌝ }
+{
+    let b = batches::take_batch(tape, at, *instant);
+    let asked = b.asked;
+    let n = b.count;
+    let verdict = step::step(
+        roles,
+        periodic_count,
+        trigger_count,
+        periodics,
+        triggers,
+        asked,
+        n,
+        instant,
+        enabled,
+        waiting,
+        events,
+    );
+    Turn {
+        verdict: verdict,
+        next: b.next,
+        roles: *enabled,
+    }
+}

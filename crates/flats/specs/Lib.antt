@@ -1,0 +1,4 @@
+-- The requests of one instant as flat numbers.
+pub mod Flat
+pub mod Laws
+pub mod Exact

@@ -1,0 +1,5 @@
+-- The whole input of a day, tested before the first instant.
+pub mod Opening
+pub mod Planned
+pub mod Laws
+pub mod Exact

@@ -1,0 +1,5 @@
+-- What is proved of what is printed: its bytes, how long it is, how it comes into a buffer, and that it reads back.
+pub mod Made
+pub mod Lengths
+pub mod Pasted
+pub mod Reads

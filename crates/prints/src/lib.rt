@@ -1,0 +1,128 @@
+ghost use mathlib.Core.Path.{_≡_};
+ghost use mathlib.Core.List.{[], _∷_};
+ghost use Prim.Native.Nat.{_+_, _*_, _/_, _%_, _≤_, _<_};
+ghost use lib.ListN.{length};
+ghost use lib.Seq.{paste};
+ghost use Rattle.frames.specs.Frame.{sum};
+ghost use Rattle.prints.specs.Print.{digitOf, hexOf, checkOf, lineOf, refusalFrame, minuteFrame};
+use basic::long;
+use basic::wide;
+
+// The low byte of a number.
+fn low(x: u64) -> u8
+    ensures { λ r. ⌜ r ≡ x % 256 ⌝ }
+{
+    (x % 256) as u8
+}
+
+// The byte of a number that has this weight.
+fn byte_of(n: u64, weight: u64) -> u8
+    requires { ⌜ 0 < weight ⌝ }
+    ensures { λ r. ⌜ r ≡ (n / weight) % 256 ⌝ }
+{
+    low(n / weight)
+}
+
+// The frame of a minute: the instant, the enabled roles after it, and the count.
+pub fn minute_frame(instant: u32, roles: u64, count: u8) -> [u8; 14]
+    ensures { λ r. ⌜ r ≡ minuteFrame instant roles count ⌝ }
+{
+    let t = long(instant);
+    [
+        0x50,
+        byte_of(t, 0x1000000),
+        byte_of(t, 0x10000),
+        byte_of(t, 0x100),
+        byte_of(t, 1),
+        byte_of(roles, 0x100000000000000),
+        byte_of(roles, 0x1000000000000),
+        byte_of(roles, 0x10000000000),
+        byte_of(roles, 0x100000000),
+        byte_of(roles, 0x1000000),
+        byte_of(roles, 0x10000),
+        byte_of(roles, 0x100),
+        byte_of(roles, 1),
+        count,
+    ]
+}
+
+// The frame of a refusal: its number and its place.
+pub fn refusal_frame(number: u8, place: u32) -> [u8; 6]
+    ensures { λ r. ⌜ r ≡ refusalFrame number place ⌝ }
+{
+    let p = long(place);
+    [
+        0xe0,
+        number,
+        byte_of(p, 0x1000000),
+        byte_of(p, 0x10000),
+        byte_of(p, 0x100),
+        byte_of(p, 1),
+    ]
+}
+
+// The character of a digit.
+fn glyph(d: u8) -> u8
+    requires { ⌜ d < 16 ⌝ }
+    ensures { λ r. ⌜ r ≡ digitOf d ⌝ }
+{
+    if d < 10 {
+        return 48 + d;
+    }
+    55 + d
+}
+
+// The sum of the frame's bytes, less the multiples of 256.
+fn total(frame: &[u8]) -> u32
+    ensures { λ r. ⌜ r ≡ sum (now (frame .entry)) % 256 ⌝ }
+{
+    let mut t: u32 = 0;
+    let mut i: usize = 0;
+    while i < frame.len() {
+        t = (t + wide(frame[i])) % 256;
+        i += 1;
+    }
+    t
+}
+
+// The frame's last byte.
+fn check_of(frame: &[u8]) -> u8
+    ensures { λ r. ⌜ r ≡ checkOf (now (frame .entry)) ⌝ }
+{
+    let t = total(frame);
+    low(long(256 - t))
+}
+
+// A byte's two digits over the buffer's bytes from `at` on.
+fn put_byte(out: &mut [u8], at: usize, b: u8)
+    requires { ⌜ at + 2 ≤ length (now out) ⌝ }
+    ensures { λ _. ⌜ now (out .exit) ≡ paste (now (out .entry)) at (hexOf (b ∷ [])) 2 ⌝ }
+{
+    let first = glyph(b / 16);
+    let second = glyph(b % 16);
+    out[at] = first;
+    out[at + 1] = second;
+}
+
+// The digits of a frame over the buffer's bytes from `at` on.
+fn put_hex(out: &mut [u8], at: usize, frame: &[u8])
+    requires { ⌜ at + 2 * length (now frame) ≤ length (now out) ⌝ }
+    ensures { λ _. ⌜ now (out .exit) ≡ paste (now (out .entry)) at (hexOf (now (frame .entry))) (2 * length (now (frame .entry))) ⌝ }
+{
+    let mut j: usize = 0;
+    while j < frame.len() {
+        put_byte(out, at + 2 * j, frame[j]);
+        j += 1;
+    }
+}
+
+// A frame's line over the buffer's bytes from `at` on. (For the day alone, which has shown that it fits.)
+pub fn put_line(out: &mut [u8], at: usize, frame: &[u8])
+    requires { ⌜ at + (2 * length (now frame) + 3) ≤ length (now out) ⌝ }
+    ensures { λ _. ⌜ now (out .exit) ≡ paste (now (out .entry)) at (lineOf (now (frame .entry))) (length (lineOf (now (frame .entry)))) ⌝ }
+{
+    let end = at + 2 * frame.len();
+    put_hex(out, at, frame);
+    put_byte(out, end, check_of(frame));
+    out[end + 2] = 10;
+}

@@ -1,0 +1,5 @@
+-- The input of a day in its two parts, a sheet and a tape.
+pub mod Split
+pub mod Parted
+pub mod Laws
+pub mod Exact

@@ -1,0 +1,88 @@
+-- Laws of a tape's lines: what the code hands back as the definitions say it, each is one line more, and what passed had room.
+-- Assumes nothing.
+use mathlib.Core.Path.{_≡_, refl, sym, ap, _∙_}
+use mathlib.Core.Logic.{⊎-elim}
+use mathlib.Core.Bool.{true, false, cond}
+use mathlib.Core.List.{List}
+use Prim.Native.Nat.{ℕ, _+_, _<_}
+use native.Mathlib.Omega.{arith}
+use lib.Dec.{eqb, ltb}
+use borrow.Author.Tests.{eq-eqb, ltb-true}
+use Rattle.theory.specs.Numbers.{REQUESTS}
+use Rattle.theory.specs.Laws.Tests.{test}
+use Rattle.answers.specs.declared.Refusal.{Refusal}
+use Rattle.answers.specs.declared.Verdict.{Verdict}
+use Rattle.answers.specs.declared.Verdict.the-variants.{Pass, Refuse}
+use Rattle.answers.specs.Laws.{cond-pass}
+use Rattle.text.specs.Framed.{framed}
+use Rattle.frames.specs.Frame.{bytesOf, checked}
+use Rattle.walks.specs.Walks.{Going, goes, refused}
+use Rattle.kinds.specs.Kinds.{kind}
+use Rattle.tape_tests.specs.declared.Heard.{Heard}
+use Rattle.tape_tests.specs.Tape.{ASK, instantOf, ofTape, roomFor, inTime, askFits, inOrder, judgeFrame, judgeTape}
+use Rattle.tape.specs.declared.Tape.{Tape}
+use Rattle.tape.specs.declared.Tape.the-variants.{Goes, Refused}
+use Rattle.tape.specs.Tape.{heardAfter, byVerdict, tapeStep}
+
+-- ---- what comes back
+
+abbrev pub took : Tape → Going Heard
+took (Goes s) = goes s
+took (Refused r) = refused r
+
+pub went : (w : Tape) (x : Going Heard) (s : Heard) → took w ≡ x → w ≡ Goes s → goes s ≡ x
+went w x s e h = sym (ap took h) ∙ e
+
+pub stopped : (w : Tape) (x : Going Heard) (r : Refusal) → took w ≡ x → w ≡ Refused r → refused r ≡ x
+stopped w x r e h = sym (ap took h) ∙ e
+
+-- ---- one line
+
+-- what passed was framed and checked, and passed each test of its frame
+pub record Passed (roles : ℕ) (s : Heard) (l : List ℕ) : Type 0 where
+  pub is-framed : framed l ≡ true
+  pub is-checked : checked (bytesOf l) ≡ true
+  pub of-tape : ofTape s (bytesOf l) ≡ true
+  pub room : roomFor s (bytesOf l) ≡ true
+  pub in-time : inTime s (bytesOf l) ≡ true
+  pub fit : askFits roles (bytesOf l) ≡ true
+
+pub passes : (place roles : ℕ) (s : Heard) (l : List ℕ) → judgeTape place roles s l ≡ Pass → Passed roles s l
+unfolding judgeTape judgeFrame inOrder
+passes place roles s l e =
+    let a = cond-pass (framed l) _ _ _ e in
+    let b = cond-pass (checked (bytesOf l)) _ _ _ (a .1) in
+    let c = cond-pass (ofTape s (bytesOf l)) _ _ _ (b .1) in
+    let d = cond-pass (roomFor s (bytesOf l)) _ _ _ (c .1) in
+    let f = cond-pass (inTime s (bytesOf l)) _ _ _ (d .1) in
+    let g = cond-pass (askFits roles (bytesOf l)) _ _ _ (f .1) in
+    record { is-framed = a .0; is-checked = b .0; of-tape = c .0; room = d .0; in-time = f .0; fit = g .0 }
+
+-- room for a request more of the same instant
+pub room-says : (s : Heard) (f : List ℕ) → roomFor s f ≡ true → kind f ≡ ASK → instantOf f ≡ s .instant → s .row < REQUESTS
+unfolding roomFor
+room-says s f h k e = ltb-true (s .row) REQUESTS (rw (eq-eqb (kind f) ASK k, eq-eqb (instantOf f) (s .instant) e) at h)
+
+-- one line more
+after-line : (s : Heard) (f : List ℕ) → heardAfter s f .line ≡ s .line + 1
+unfolding heardAfter
+after-line s f =
+    ⊎-elim
+    (λ (t : eqb (kind f) ASK ≡ true). rw t refl)
+    (λ (t : eqb (kind f) ASK ≡ false). rw t refl)
+    (test (eqb (kind f) ASK))
+
+-- a line that goes on passed, and did what it does
+by-verdict : (v : Verdict) (s n : Heard) (f : List ℕ) → byVerdict v s f ≡ goes n → (v ≡ Pass) × (heardAfter s f ≡ n)
+unfolding byVerdict
+by-verdict Pass s n f e = (refl, cc)
+by-verdict (Refuse r) s n f e = absurd (let z : _≡_ {A = ℕ} 0 1 = cc in omega arith)
+
+pub took-line : (roles : ℕ) (s n : Heard) (l : List ℕ) → tapeStep roles s l ≡ goes n → Passed roles s l × (heardAfter s (bytesOf l) ≡ n)
+unfolding tapeStep
+took-line roles s n l e =
+    let v = by-verdict (judgeTape (s .line + 1) roles s l) s n (bytesOf l) e in
+    (passes (s .line + 1) roles s l (v .0), v .1)
+
+pub line-next : (roles : ℕ) (s n : Heard) (l : List ℕ) → tapeStep roles s l ≡ goes n → n .line ≡ s .line + 1
+line-next roles s n l e = sym (ap (λ (x : Heard). x .line) (took-line roles s n l e .1)) ∙ after-line s (bytesOf l)

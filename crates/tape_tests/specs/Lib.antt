@@ -1,0 +1,3 @@
+-- The tests of a line of a tape, in their order.
+pub mod Tape
+pub mod Exact

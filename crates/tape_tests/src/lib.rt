@@ -1,0 +1,141 @@
+ghost use mathlib.Core.Path.{_≡_};
+ghost use Rattle.frames.specs.Frame.{bytesOf};
+ghost use Rattle.kinds.specs.Kinds.{kind};
+ghost use Rattle.requests.specs.Asked.{requestOf};
+ghost use Rattle.tape_tests.specs.Tape.{tapeSize, instantOf, askedIn, ofTape, roomFor, inTime, askFits, inOrder, judgeFrame, judgeTape};
+use answers::Name;
+use answers::Verdict;
+use answers::refuse;
+use basic::both;
+use basic::either;
+use basic::wide;
+use frames::byte_at;
+use requests::Request;
+
+// What was read of a tape so far: how many lines of the whole input, whether the end was there, the instant of the last request and how many requests in a row are of it,
+// and the last instant that the end said. (Before the first request the instant is 0, and none is of it.)
+pub struct Heard {
+    pub line: u32,
+    pub ended: bool,
+    pub instant: u32,
+    pub row: u8,
+    pub last: u32,
+}
+
+// The instant that a line's frame says: a request's, or the last one.
+pub fn instant_of(line: &[u8]) -> u32
+    ensures { λ r. ⌜ r ≡ instantOf (bytesOf (now (line .entry))) ⌝ }
+{
+    let high = 256 * wide(byte_at(line, 1)) + wide(byte_at(line, 2));
+    let low = 256 * wide(byte_at(line, 3)) + wide(byte_at(line, 4));
+    65536 * high + low
+}
+
+// The request that a line's frame says.
+pub fn asked_in(line: &[u8]) -> Request
+    ensures { λ r. ⌜ requestOf r ≡ askedIn (bytesOf (now (line .entry))) ⌝ }
+{
+    Request {
+        event: byte_at(line, 5),
+        priority: byte_at(line, 6),
+        delay: byte_at(line, 7),
+    }
+}
+
+// How many bytes a frame of kind k has.
+fn size_of(k: u8) -> usize
+    ensures { λ r. ⌜ r ≡ tapeSize k ⌝ }
+{
+    if k == 64 {
+        return 9;
+    }
+    if k == 241 {
+        return 6;
+    }
+    0
+}
+
+// KIND is not given.
+fn of_tape(line: &[u8], s: Heard) -> bool
+    ensures { λ r. ⌜ r ≡ ofTape s (bytesOf (now (line .entry))) ⌝ }
+{
+    let sized = frames::count(line) == size_of(byte_at(line, 0));
+    both(sized, !s.ended)
+}
+
+// TOO MANY is not given.
+fn has_room(line: &[u8], s: Heard) -> bool
+    ensures { λ r. ⌜ r ≡ roomFor s (bytesOf (now (line .entry))) ⌝ }
+{
+    if byte_at(line, 0) == 64 {
+        let other = instant_of(line) != s.instant;
+        return either(other, s.row < 32);
+    }
+    true
+}
+
+// FIELD is not given.
+fn in_time(line: &[u8], s: Heard) -> bool
+    ensures { λ r. ⌜ r ≡ inTime s (bytesOf (now (line .entry))) ⌝ }
+{
+    let t = instant_of(line);
+    if byte_at(line, 0) == 241 {
+        return both(s.instant <= t, t <= 10080);
+    }
+    s.instant <= t
+}
+
+// REQUEST is not given.
+fn ask_fits(line: &[u8], roles: u8) -> bool
+    ensures { λ r. ⌜ r ≡ askFits roles (bytesOf (now (line .entry))) ⌝ }
+{
+    if byte_at(line, 0) == 64 {
+        return requests::request_fits(roles, asked_in(line));
+    }
+    true
+}
+
+// The first test that fails gives its refusal: KIND, TOO MANY, FIELD, REQUEST.
+fn in_order(place: u32, kind: bool, room: bool, field: bool, request: bool) -> Verdict
+    ensures { λ r. ⌜ r ≡ inOrder place kind room field request ⌝ }
+{
+    if kind {
+        if room {
+            if field {
+                if request {
+                    return Verdict::Pass;
+                }
+                return refuse(Name::Request, place);
+            }
+            return refuse(Name::Field, place);
+        }
+        return refuse(Name::TooMany, place);
+    }
+    refuse(Name::Kind, place)
+}
+
+// KIND, TOO MANY, FIELD, REQUEST of a line's frame.
+fn frame_judged(line: &[u8], roles: u8, s: Heard, place: u32) -> Verdict
+    ensures { λ r. ⌜ r ≡ judgeFrame place roles s (bytesOf (now (line .entry))) ⌝ }
+{
+    in_order(
+        place,
+        of_tape(line, s),
+        has_room(line, s),
+        in_time(line, s),
+        ask_fits(line, roles),
+    )
+}
+
+// The tests of a line of a tape, in order.
+pub fn tape_judged(line: &[u8], roles: u8, s: Heard, place: u32) -> Verdict
+    ensures { λ r. ⌜ r ≡ judgeTape place roles s (now (line .entry)) ⌝ }
+{
+    if text::is_framed(line) {
+        if frames::is_checked(line) {
+            return frame_judged(line, roles, s, place);
+        }
+        return refuse(Name::Check, place);
+    }
+    refuse(Name::Frame, place)
+}
