@@ -1,7 +1,7 @@
 -- The way there: a row in its table, what a line that passed has, and what was read so far.
 pub mod Rows
 pub mod Tables
-pub mod Passed
+pub mod Fields
 pub mod After
 pub mod SoFar
 pub mod Kept

@@ -23,8 +23,8 @@ use Rattle.row_counts.specs.Counts.{roomFor, countsAgree}
 use Rattle.fields.specs.Fields.{headerFits, frameFits}
 use Rattle.line_tests.specs.Judge.{inOrder, judgeFrame, judgeLine}
 use Rattle.line_acts.specs.Acts.{seenAfter, tableAfter, after}
-use Rattle.lines.specs.Line.{byVerdict, lineStep}
-use Rattle.walks.specs.Walks.{walks}
+use Rattle.lines.specs.Line.{lineStep}
+use Rattle.walks.specs.Walks.{byVerdict, walks}
 use Rattle.lines.specs.Lines.{atEnd}
 use Rattle.sheet.specs.Sheet.{lengthsFit}
 use Rattle.examples.specs.Written.{_∶_, first, Rule, _gives_after_, _waits-for_, rolesIn, rowsIn}

@@ -14,7 +14,6 @@ use Rattle.theory.specs.Sheet.{is}
 use Rattle.theory.specs.Instant.{requestFits}
 use Rattle.theory.specs.Laws.Tests.{and-left, and-right, or-cases, test}
 use Rattle.theory.specs.Laws.Exists.{is-only}
-use Rattle.answers.specs.declared.Refusal.{Refusal}
 use Rattle.text.specs.Lines.{Lines, none, endless, line}
 use Rattle.text.specs.Framed.{firstBad, framed}
 use Rattle.frames.specs.Frame.{bytesOf}
@@ -22,10 +21,10 @@ use Rattle.frames.specs.Laws.Frame.{length-bytes}
 use Rattle.kinds.specs.Kinds.{kind}
 use Rattle.requests.specs.Requests.{fits}
 use Rattle.walks.specs.Walks.{Going, goes, refused, walks}
-use Rattle.walks.specs.Laws.{walks-refused}
+use Rattle.walks.specs.Laws.{no-goes, walks-first}
 use Rattle.tape_tests.specs.declared.Heard.{Heard}
 use Rattle.tape_tests.specs.Tape.{ASK, TAPE-END, LONGEST-DAY, instantOf, askedIn, tapeSize, ofTape, inTime, askFits}
-use Rattle.tape.specs.Tape.{rowWith, heardAfter, tapeStep, tapeEnds, tapeReader, lineAsks, asksIn}
+use Rattle.tape.specs.Tape.{rowWith, heardAfter, tapeEnds, tapeReader, lineAsks, asksIn}
 use Rattle.tape.specs.Laws.{Passed, took-line, room-says}
 
 -- a line is a request
@@ -64,10 +63,6 @@ line-asks l u d e p h =
       eqb-true (askedIn f .delay) d (and-left (eqb (askedIn f .delay) d) i y),
       and-right (eqb (askedIn f .delay) d) i y,
     )
-
--- a refusal is not 'goes on'
-no-goes : {C : Type 0} (r : Refusal) (z : Heard) → _≡_ {A = Going Heard} (refused r) (goes z) → C
-no-goes r z e = absurd (let w : _≡_ {A = ℕ} 0 1 = cc in omega arith)
 
 -- after a request, and after the end
 module _ (s : Heard) (f : List ℕ) where
@@ -117,15 +112,11 @@ module _ (roles : ℕ) (z : Heard) where
     passed : Passed roles s l
     others : GoesOn (heardAfter s (bytesOf l)) ls
 
-  by-step : (x : Going Heard) (s : Heard) (l : List ℕ) (ls : Lines) → tapeStep roles s l ≡ x → walks (tapeReader roles) x ls ≡ goes z → First s l ls
-  by-step (goes n) s l ls e h =
-      let t = took-line roles s n l e in
-      record { passed = t .0; others = subst (λ (x : Heard). GoesOn x ls) (sym (t .1)) h }
-  by-step (refused r) s l ls e h = no-goes r z (sym (walks-refused (tapeReader roles) r ls) ∙ h)
-
   first-of : (s : Heard) (l : List ℕ) (ls : Lines) → GoesOn s (line l ls) → First s l ls
-  unfolding walks
-  first-of s l ls h = by-step (tapeStep roles s l) s l ls refl h
+  first-of s l ls h =
+      let x = walks-first (tapeReader roles) s z l ls h in
+      let t = took-line roles s (x .0) l (x .1) in
+      record { passed = t .0; others = subst (λ (y : Heard). GoesOn y ls) (sym (t .1)) (x .2) }
 
   -- nothing stands after the end
   ended-none : (s : Heard) (ls : Lines) → s .ended ≡ true → GoesOn s ls → ls ≡ none

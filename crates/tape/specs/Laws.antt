@@ -5,24 +5,23 @@ use mathlib.Core.Logic.{⊎-elim}
 use mathlib.Core.Bool.{true, false, cond}
 use mathlib.Core.List.{List}
 use Prim.Native.Nat.{ℕ, _+_, _<_}
-use native.Mathlib.Omega.{arith}
 use lib.Dec.{eqb, ltb}
 use borrow.Author.Tests.{eq-eqb, ltb-true}
 use Rattle.theory.specs.Numbers.{REQUESTS}
 use Rattle.theory.specs.Laws.Tests.{test}
 use Rattle.answers.specs.declared.Refusal.{Refusal}
-use Rattle.answers.specs.declared.Verdict.{Verdict}
 use Rattle.answers.specs.declared.Verdict.the-variants.{Pass, Refuse}
 use Rattle.answers.specs.Laws.{cond-pass}
 use Rattle.text.specs.Framed.{framed}
 use Rattle.frames.specs.Frame.{bytesOf, checked}
 use Rattle.walks.specs.Walks.{Going, goes, refused}
+use Rattle.walks.specs.Laws.{verdict-goes}
 use Rattle.kinds.specs.Kinds.{kind}
 use Rattle.tape_tests.specs.declared.Heard.{Heard}
 use Rattle.tape_tests.specs.Tape.{ASK, instantOf, ofTape, roomFor, inTime, askFits, inOrder, judgeFrame, judgeTape}
 use Rattle.tape.specs.declared.Tape.{Tape}
 use Rattle.tape.specs.declared.Tape.the-variants.{Goes, Refused}
-use Rattle.tape.specs.Tape.{heardAfter, byVerdict, tapeStep}
+use Rattle.tape.specs.Tape.{heardAfter, tapeStep}
 
 -- ---- what comes back
 
@@ -73,15 +72,10 @@ after-line s f =
     (test (eqb (kind f) ASK))
 
 -- a line that goes on passed, and did what it does
-by-verdict : (v : Verdict) (s n : Heard) (f : List ℕ) → byVerdict v s f ≡ goes n → (v ≡ Pass) × (heardAfter s f ≡ n)
-unfolding byVerdict
-by-verdict Pass s n f e = (refl, cc)
-by-verdict (Refuse r) s n f e = absurd (let z : _≡_ {A = ℕ} 0 1 = cc in omega arith)
-
 pub took-line : (roles : ℕ) (s n : Heard) (l : List ℕ) → tapeStep roles s l ≡ goes n → Passed roles s l × (heardAfter s (bytesOf l) ≡ n)
 unfolding tapeStep
 took-line roles s n l e =
-    let v = by-verdict (judgeTape (s .line + 1) roles s l) s n (bytesOf l) e in
+    let v = verdict-goes (judgeTape (s .line + 1) roles s l) (heardAfter s (bytesOf l)) n e in
     (passes (s .line + 1) roles s l (v .0), v .1)
 
 pub line-next : (roles : ℕ) (s n : Heard) (l : List ℕ) → tapeStep roles s l ≡ goes n → n .line ≡ s .line + 1

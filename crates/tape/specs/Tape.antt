@@ -7,11 +7,9 @@ use lib.Dec.{eqb}
 use Rattle.theory.specs.Sheet.{is}
 use Rattle.theory.specs.Model.{Stream}
 use Rattle.answers.specs.declared.Name.the-variants.{Kind}
-use Rattle.answers.specs.declared.Verdict.{Verdict}
-use Rattle.answers.specs.declared.Verdict.the-variants.{Pass, Refuse}
 use Rattle.text.specs.Lines.{Lines, none, endless, line, lines}
 use Rattle.frames.specs.Frame.{bytesOf}
-use Rattle.walks.specs.Walks.{Going, goes, refused, Reader, walks}
+use Rattle.walks.specs.Walks.{Going, goes, refused, byVerdict, Reader, walks}
 use Rattle.kinds.specs.Kinds.{kind}
 use Rattle.tape_tests.specs.declared.Heard.{Heard}
 use Rattle.tape_tests.specs.Tape.{ASK, instantOf, askedIn, judgeTape}
@@ -29,13 +27,9 @@ heardAfter s f =
     (record { line = s .line + 1; ended = false; instant = instantOf f; row = rowWith s (instantOf f); last = s .last })
     (record { line = s .line + 1; ended = true; instant = s .instant; row = s .row; last = instantOf f })
 
-unfoldable pub byVerdict : Verdict → Heard → List ℕ → Going Heard
-byVerdict Pass s f = goes (heardAfter s f)
-byVerdict (Refuse r) s f = refused r
-
 -- THE LINE: its tests, at the line after those that were read, and what it does
 unfoldable pub tapeStep : ℕ → Heard → List ℕ → Going Heard
-tapeStep roles s l = byVerdict (judgeTape (s .line + 1) roles s l) s (bytesOf l)
+tapeStep roles s l = byVerdict (judgeTape (s .line + 1) roles s l) (heardAfter s (bytesOf l))
 
 -- after the last line: the end was there, else KIND at the line after it
 unfoldable pub tapeEnds : Heard → Going Heard

@@ -1,21 +1,43 @@
--- Laws of the lines in order: one turn of a loop over them, with the cursor at the start of a line. What is left of the text from the cursor on is `drop at text`.
+-- Laws of the lines in order: what it says that they go on to their end, and one turn of a loop over them, with the cursor at the start of a line. What is left of the text from the cursor on is `drop at text`.
 -- Assumes nothing.
 use mathlib.Core.Path.{_≡_, refl, sym, ap, _∙_}
 use mathlib.Core.List.{List}
 use Prim.Native.Nat.{ℕ, _+_, _-_, _≤_, _<_}
+use native.Mathlib.Omega.{arith}
 use lib.ListN.{length, take, drop, drop-of-length-le}
 use Rattle.answers.specs.declared.Name.the-variants.{Frame}
 use Rattle.answers.specs.declared.Refusal.{Refusal}
+use Rattle.answers.specs.declared.Verdict.{Verdict}
+use Rattle.answers.specs.declared.Verdict.the-variants.{Pass, Refuse}
 use Rattle.text.specs.Lines.{Lines, none, endless, line, lines}
 use Rattle.text.specs.Laws.Lines.{span, line-here, endless-here}
-use Rattle.walks.specs.Walks.{Going, goes, refused, Reader, walks}
+use Rattle.walks.specs.Walks.{Going, goes, refused, byVerdict, Reader, walks}
+
+-- a refusal is not 'goes on'
+pub no-goes : {A C : Type 0} (r : Refusal) (z : A) → _≡_ {A = Going A} (refused r) (goes z) → C
+no-goes r z e = absurd (let w : _≡_ {A = ℕ} 0 1 = cc in omega arith)
+
+-- what goes on passed
+pub verdict-goes : {A : Type 0} (v : Verdict) (made n : A) → byVerdict v made ≡ goes n → (v ≡ Pass) × (made ≡ n)
+unfolding byVerdict
+verdict-goes Pass made n e = (refl, cc)
+verdict-goes (Refuse r) made n e = no-goes r n e
 
 module _ {A : Type 0} (R : Reader A) where
-  pub walks-refused : (r : Refusal) (ls : Lines) → walks R (refused r) ls ≡ refused r
+  walks-refused : (r : Refusal) (ls : Lines) → walks R (refused r) ls ≡ refused r
   unfolding walks
   walks-refused r none = refl
   walks-refused r (endless l) = refl
   walks-refused r (line l ls) = refl
+
+  -- where all lines go on to their end, the first does, and from there the others
+  by-first : (z : A) (x : Going A) (ls : Lines) → walks R x ls ≡ goes z → (n : A) × (x ≡ goes n) × (walks R (goes n) ls ≡ goes z)
+  by-first z (goes n) ls h = (n, refl, h)
+  by-first z (refused r) ls h = no-goes r z (sym (walks-refused r ls) ∙ h)
+
+  pub walks-first : (s z : A) (l : List ℕ) (ls : Lines) → walks R (goes s) (line l ls) ≡ goes z → (n : A) × (R .takes s l ≡ goes n) × (walks R (goes n) ls ≡ goes z)
+  unfolding walks
+  walks-first s z l ls h = by-first z (R .takes s l) ls h
 
   module _ (text : List ℕ) (at : ℕ) where
     -- after the last line

@@ -4,12 +4,19 @@ use mathlib.Core.List.{List}
 use Prim.Native.Nat.{ℕ, _+_}
 use Rattle.answers.specs.declared.Name.the-variants.{Frame}
 use Rattle.answers.specs.declared.Refusal.{Refusal}
+use Rattle.answers.specs.declared.Verdict.{Verdict}
+use Rattle.answers.specs.declared.Verdict.the-variants.{Pass, Refuse}
 use Rattle.text.specs.Lines.{Lines, none, endless, line}
 
 -- reading goes on with what was read so far, or is refused
 pub data Going (A : Type 0) : Type 0 where
   goes : A → Going A
   refused : Refusal → Going A
+
+-- by the verdict on a line: where it passes, reading goes on with what it made
+unfoldable pub byVerdict : {A : Type 0} → Verdict → A → Going A
+byVerdict Pass made = goes made
+byVerdict (Refuse r) made = refused r
 
 -- A reader: how many lines were read so far, what one line more makes of that, and what is left after the last line.
 pub record Reader (A : Type 0) : Type 0 where

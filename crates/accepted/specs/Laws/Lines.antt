@@ -1,28 +1,22 @@
 -- Lines that go on to their end leave what was read in order, and their last line is the end frame.
 -- Assumes nothing.
-use mathlib.Core.Path.{_≡_, refl, sym, _∙_, subst}
+use mathlib.Core.Path.{_≡_, sym, subst}
 use mathlib.Core.List.{List}
 use Prim.Native.Nat.{ℕ}
-use native.Mathlib.Omega.{arith}
 use Rattle.theory.specs.Sheet.{GoodOrder}
-use Rattle.answers.specs.declared.Refusal.{Refusal}
 use Rattle.text.specs.Lines.{Lines, none, endless, line}
 use Rattle.frames.specs.Frame.{bytesOf}
-use Rattle.walks.specs.Walks.{Going, goes, refused, walks}
-use Rattle.walks.specs.Laws.{walks-refused}
+use Rattle.walks.specs.Walks.{goes, walks}
+use Rattle.walks.specs.Laws.{no-goes, walks-first}
 use Rattle.kinds.specs.declared.Stage.{Stage}
 use Rattle.kinds.specs.declared.Stage.the-variants.{Start, Rows, Ended}
+use Rattle.line_tests.specs.Laws.{Passed}
 use Rattle.line_acts.specs.Acts.{State, after}
-use Rattle.lines.specs.Line.{lineStep}
 use Rattle.lines.specs.Lines.{atEnd, sheetReader, reads}
+use Rattle.lines.specs.Laws.Lines.{took-line}
 use Rattle.hand_out.specs.Out.{sheetRead}
-use Rattle.accepted.specs.Laws.Passed.{Passed, took-line}
 use Rattle.accepted.specs.Laws.SoFar.{InOrder, SoFar}
 use Rattle.accepted.specs.Laws.Kept.{kept}
-
--- a refusal is not 'goes on'
-no-goes : {C : Type 0} (r : Refusal) (z : State) → _≡_ {A = Going State} (refused r) (goes z) → C
-no-goes r z e = absurd (let w : _≡_ {A = ℕ} 0 1 = cc in omega arith)
 
 module _ (z : State) where
   -- from here on the lines go on to their end
@@ -34,15 +28,11 @@ module _ (z : State) where
     passed : Passed (s .seen) (bytesOf l)
     others : GoesOn (after s (bytesOf l)) ls
 
-  by-step : (x : Going State) (s : State) (l : List ℕ) (ls : Lines) → lineStep s l ≡ x → reads x ls ≡ goes z → First s l ls
-  by-step (goes n) s l ls e h =
-      let t = took-line s n l e in
-      record { passed = t .0; others = subst (λ (x : State). GoesOn x ls) (sym (t .1)) h }
-  by-step (refused r) s l ls e h = no-goes r z (sym (walks-refused sheetReader r ls) ∙ h)
-
   first-of : (s : State) (l : List ℕ) (ls : Lines) → GoesOn s (line l ls) → First s l ls
-  unfolding walks
-  first-of s l ls h = by-step (lineStep s l) s l ls refl h
+  first-of s l ls h =
+      let x = walks-first sheetReader s z l ls h in
+      let t = took-line s (x .0) l (x .1) in
+      record { passed = t .0; others = subst (λ (y : State). GoesOn y ls) (sym (t .1)) (x .2) }
 
   -- after the last line the end frame was there
   at-end : (g : Stage) (s : State) → atEnd g s ≡ goes z → InOrder g s → (s ≡ z) × GoodOrder (sheetRead s)

@@ -1,9 +1,9 @@
 -- `lines::take` meets its contract: the verdict decides, and what passed had room.
 -- Assumes nothing.
 use mathlib.Core.Path.{sym, ap, _∙_}
-use Rattle.line_tests.specs.Laws.{passes-room}
-use Rattle.walks.specs.Walks.{goes}
-use Rattle.lines.specs.Line.{byVerdict, lineStep}
+use Rattle.line_tests.specs.Laws.{passes}
+use Rattle.walks.specs.Walks.{goes, byVerdict}
+use Rattle.lines.specs.Line.{lineStep}
 use borrow.Author.Needs.{needs}
 use Rattle.lines.proofs.take.Statement.{statement}
 use Rattle.lines.proofs.take.Tie as tie
@@ -21,7 +21,7 @@ act-requires : tie.Need-act-requires
 act-requires c κs =
     let m = c .before .before in
     let s = m .before .before .before .before .before .before .before in
-    ((s .pre .0, passes-room _ _ _ (sym (m .before .before .line-judged .ensures) ∙ m .enum-told .given .1)), s .pre .1)
+    ((s .pre .0, passes _ _ _ (sym (m .before .before .line-judged .ensures) ∙ m .enum-told .given .1) .room), s .pre .1)
 
 enum-known-v : tie.Need-enum-known-v
 enum-known-v c = search needs

@@ -1,8 +1,8 @@
 -- `tape::take` meets its contract: the verdict decides, and what passed had room.
 -- Assumes nothing.
 use mathlib.Core.Path.{sym, ap, _∙_}
-use Rattle.walks.specs.Walks.{goes}
-use Rattle.tape.specs.Tape.{byVerdict, tapeStep}
+use Rattle.walks.specs.Walks.{goes, byVerdict}
+use Rattle.tape.specs.Tape.{tapeStep}
 use Rattle.tape.specs.Laws.{passes}
 use borrow.Author.Needs.{needs}
 use Rattle.tape.proofs.take.Statement.{statement}
