@@ -1,33 +1,46 @@
--- The keys of the triggers as the code keeps them, a list of 256 numbers.
+-- The keys of the triggers, and the triggers chained by them: a list of 513 numbers. Place i has the next trigger of the key of trigger i, place 256 + k the first of key k.
 -- Assumes nothing.
-use mathlib.Core.Bool.{Bool}
+use mathlib.Core.Path.{_≡_}
 use mathlib.Core.List.{List}
-use Prim.Native.Nat.{ℕ}
-use lib.Dec.{ltb}
-use lib.ListN.{getD, replicate}
+use Prim.Native.Nat.{ℕ, _+_, _≤_, _<_}
+use lib.ListN.{getD}
 use Rattle.theory.specs.Numbers.{TRIGGER-ROWS}
-use Rattle.theory.specs.Below.{allBelow}
 use Rattle.theory.specs.Laws.Stage.{keyOf}
 use Rattle.tables.specs.Layout.{byteAt, triggersOf}
 use Rattle.tables.specs.Buffers.{rolesOf}
-use Rattle.masks.specs.Joins.{writes}
 
 -- a level is at most 255, so that a key is below 257
 abbrev pub KEYS : ℕ
 KEYS = 257
 
--- number i of the list, and 0 past the end
-abbrev pub keyAt : List ℕ → ℕ → ℕ
-keyAt keys i = getD keys i 0
-
 -- the key of trigger i, of n in a table
 abbrev pub keyIn : List ℕ → List ℕ → ℕ → ℕ → ℕ → ℕ
 keyIn table levels roles n = keyOf (triggersOf n table) (rolesOf roles) (byteAt levels)
 
--- the first n keys are below 257
-abbrev pub keysFit : ℕ → (ℕ → ℕ) → Bool
-keysFit n key = allBelow n (λ i. ltb (key i) KEYS)
+-- the places of the chains
+abbrev pub PLACES : ℕ
+PLACES = TRIGGER-ROWS + KEYS
 
--- the list with the keys of the first n triggers
-abbrev pub keysOf : ℕ → (ℕ → ℕ) → List ℕ
-keysOf n key = writes (replicate TRIGGER-ROWS 0) 0 n key
+-- the trigger after trigger i, and the first of key k
+abbrev pub afterOf : List ℕ → ℕ → ℕ
+afterOf chains i = getD chains i 0
+
+abbrev pub firstOf : List ℕ → ℕ → ℕ
+firstOf chains k = getD chains (TRIGGER-ROWS + k) 0
+
+-- of the triggers from i on and below n, r is the first of key k; it is n where there is none
+pub record First (key : ℕ → ℕ) (n k i r : ℕ) : Type 0 where
+  pub from : i ≤ r
+  pub most : r ≤ n
+  pub none : (j : ℕ) → i ≤ j → j < r → ¬ (key j ≡ k)
+  pub there : r < n → key r ≡ k
+
+-- the triggers from i on and below n are chained by their keys
+pub record Chained (key : ℕ → ℕ) (n i : ℕ) (chains : List ℕ) : Type 0 where
+  pub fits : (j : ℕ) → i ≤ j → j < n → key j < KEYS
+  pub first : (k : ℕ) → k < KEYS → First key n k i (firstOf chains k)
+  pub after : (j : ℕ) → i ≤ j → j < n → First key n (key j) (j + 1) (afterOf chains j)
+
+-- n triggers are chained, by some keys
+abbrev pub Linked : ℕ → List ℕ → Type 0
+Linked n chains = (key : ℕ → ℕ) × Chained key n 0 chains

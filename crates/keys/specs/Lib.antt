@@ -1,3 +1,3 @@
--- The keys of the triggers.
+-- The keys of the triggers, and their chains.
 pub mod Keys
-pub mod Exact
+pub mod Laws

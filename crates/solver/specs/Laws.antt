@@ -1,26 +1,21 @@
 -- What the solver comes to: when every key was reached, the buffer is solved.
 -- Assumes nothing.
-use mathlib.Core.Path.{_≡_, refl, sym, ap, _∙_}
-use mathlib.Core.Bool.{Bool, true}
+use mathlib.Core.Path.{_≡_, refl}
+use mathlib.Core.Bool.{Bool}
 use mathlib.Core.List.{List, []}
 use Prim.Native.Nat.{ℕ, _≤_, _<_}
-use native.Mathlib.Nat.{zero-add}
 use native.Mathlib.Omega.{arith}
-use lib.Dec.{ltb}
-use lib.ListN.{length, replicate, length-replicate}
-use borrow.Author.Tests.{ltb-true}
+use lib.ListN.{length}
 use Rattle.theory.specs.Numbers.{EVENTS, TRIGGER-ROWS}
 use Rattle.theory.specs.Events.{Events}
 use Rattle.theory.specs.Sheet.{Sheet}
 use Rattle.theory.specs.Instant.{ready, Closed, IsLeast}
 use Rattle.theory.specs.Graph.{counts}
-use Rattle.theory.specs.Laws.Below.{all-elim}
 use Rattle.theory.specs.Laws.Levels.{up, levels-stratified, ready-counts}
 use Rattle.theory.specs.Laws.Stage.{Keys, keyOf, keys-are, Reached, reached-last}
 use Rattle.tables.specs.Layout.{byteAt, sheetOf, triggersOf}
 use Rattle.tables.specs.Buffers.{rolesOf, eventsOf}
-use Rattle.masks.specs.Laws.Joins.{writes-in}
-use Rattle.keys.specs.Keys.{KEYS, keyAt, keyIn, keysFit, keysOf}
+use Rattle.keys.specs.Keys.{KEYS, keyIn}
 use Rattle.solver.specs.Solved.{Solved}
 
 -- ---- a sheet and its triggers alone
@@ -53,18 +48,13 @@ same-least table n a b a′ b′ periodics periodics′ on G S X s =
 -- ---- the end
 
 -- when every key was reached, the buffer is solved
-pub solved-last : (levels table : List ℕ) (n roles : ℕ) (before after keys : List ℕ) (k : ℕ) → length after ≡ length before → n ≤ TRIGGER-ROWS → KEYS ≤ k
-    → keys ≡ keysOf n (keyIn table levels roles n) → keysFit n (keyIn table levels roles n) ≡ true
-    → Reached (triggersOf n table) (keyAt keys) (eventsOf before) k (eventsOf after)
+pub solved-last : (levels table : List ℕ) (n roles : ℕ) (before after : List ℕ) (k : ℕ) → length after ≡ length before → KEYS ≤ k
+    → ((i : ℕ) → 0 ≤ i → i < n → keyIn table levels roles n i < KEYS)
+    → Reached (triggersOf n table) (keyIn table levels roles n) (eventsOf before) k (eventsOf after)
     → Solved levels table n roles before after
 unfolding sheetOf keyOf counts ready
-solved-last levels table n roles before after keys k size m l ks fit r =
+solved-last levels table n roles before after k size l fits r =
     let key : ℕ → ℕ = keyIn table levels roles n in
-    let are : (i : ℕ) → i < n → keyAt keys i ≡ key i
-    = λ i h.
-    ap (λ (x : List ℕ). keyAt x i) ks
-    ∙ ap (keyAt (keysOf n key)) (sym (zero-add i))
-    ∙ writes-in (replicate TRIGGER-ROWS 0) 0 n key i h (omega (arith, length-replicate {A = ℕ} TRIGGER-ROWS 0)) in
     record {
       size = size;
       solves = λ a b periodics _ good lv.
@@ -72,10 +62,10 @@ solved-last levels table n roles before after keys k size m l ks fit r =
           let on : ℕ → Bool = ready sh (rolesOf roles) in
           let height : ℕ → ℕ = up sh (byteAt levels) in
           same-least table n 0 0 a b [] periodics on (eventsOf before) (eventsOf after) (eventsOf after)
-          (reached-last (triggersOf n table) (keyAt keys) (eventsOf before) k (eventsOf after) on height
+          (reached-last (triggersOf n table) key (eventsOf before) k (eventsOf after) on height
           (levels-stratified sh (byteAt levels) lv on (ready-counts sh (rolesOf roles)))
-          (same-keys table n a b 0 0 periodics [] on height (keyAt keys) (keys-are sh (rolesOf roles) (byteAt levels) (keyAt keys) good lv are))
-          (λ i h. omega (arith, are i h, ltb-true (key i) KEYS (all-elim n (λ j. ltb (key j) KEYS) fit i h)))
+          (same-keys table n a b 0 0 periodics [] on height key (keys-are sh (rolesOf roles) (byteAt levels) key good lv (λ i h. refl)))
+          (λ i h. omega (arith, fits i (omega arith) h))
           r);
     }
 

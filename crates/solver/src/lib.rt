@@ -3,7 +3,7 @@ ghost use Prim.Native.Nat.{_≤_};
 ghost use lib.ListN.{length};
 ghost use Rattle.theory.specs.Numbers.{EVENTS, TRIGGER-ROWS};
 ghost use Rattle.solver.specs.Solved.{Solved};
-use keys::keys;
+use keys::chains;
 use keys::next;
 use turns::settle;
 
@@ -12,11 +12,11 @@ fn by_keys(events: &mut [u16], levels: &[u8], triggers: &[u8], n: u16, roles: u6
     requires { ⌜ (length (now events) ≡ EVENTS) × (n ≤ TRIGGER-ROWS) ⌝ }
     ensures { λ _. ⌜ Solved (now (levels .entry)) (now (triggers .entry)) n roles (now (events .entry)) (now (events .exit)) ⌝ }
 {
-    let keys = keys(triggers, levels, roles, n);
-    let mut k = next(&keys, n, 0);
+    let chains = chains(triggers, levels, roles, n);
+    let mut k = next(&chains, n, 0);
     while k < 257 {
-        settle(events, triggers, &keys, n, k);
-        k = next(&keys, n, k);
+        settle(events, triggers, &chains, n, k);
+        k = next(&chains, n, k);
     }
 }
 

@@ -1,16 +1,15 @@
 ghost use mathlib.Core.Path.{_≡_};
 ghost use mathlib.Core.Bool.{true};
-ghost use Prim.Native.Nat.{_<_};
+ghost use Prim.Native.Nat.{ℕ};
 ghost use lib.ListN.{length};
 ghost use Rattle.theory.specs.Numbers.{EVENTS};
-ghost use Rattle.theory.specs.Laws.Stage.{Turn, Settled, Keeps, Walked};
-ghost use Rattle.tables.specs.Layout.{triggersOf};
+ghost use Rattle.theory.specs.Laws.Stage.{Turn};
 ghost use Rattle.tables.specs.Buffers.{eventsOf};
-ghost use Rattle.keys.specs.Keys.{keyAt};
-ghost use Rattle.turns.specs.Turns.{TurnAt};
+ghost use Rattle.keys.specs.Keys.{Chained, Linked};
+ghost use Rattle.turns.specs.Turns.{Keyed, TurnAt, WalkedAt, SettledAt};
 use basic::index;
+use basic::row_index;
 use bodies::met;
-use keys::key_at;
 use masks::has;
 use masks::join;
 use masks::number;
@@ -36,14 +35,11 @@ fn put(events: &mut [u16], e: u8, p: u8) -> bool
     true
 }
 
-// The turn of trigger i among those of key k: where its body is met, its head joins the events. Whether something was added.
-fn turn(events: &mut [u16], triggers: &[u8], keys: &[u16], k: u16, i: u16) -> bool
+// The turn of trigger i: where its body is met, its head joins the events. Whether something was added.
+fn turn(events: &mut [u16], triggers: &[u8], i: u16) -> bool
     requires { ⌜ length (now events) ≡ EVENTS ⌝ }
-    ensures { λ r. ⌜ TurnAt (now (triggers .entry)) (now (keys .entry)) k i (now (events .entry)) r (now (events .exit)) ⌝ }
+    ensures { λ r. ⌜ TurnAt (now (triggers .entry)) i (now (events .entry)) r (now (events .exit)) ⌝ }
 {
-    if key_at(keys, i) != k {
-        return false;
-    }
     if !met(events, triggers, i) {
         return false;
     }
@@ -52,29 +48,29 @@ fn turn(events: &mut [u16], triggers: &[u8], keys: &[u16], k: u16, i: u16) -> bo
     put(events, e, p)
 }
 
-// A walk over the triggers of key k: whether something was added.
-fn walk(events: &mut [u16], triggers: &[u8], keys: &[u16], n: u16, k: u16) -> bool
-    requires { ⌜ (length (now events) ≡ EVENTS) × (0 < k) ⌝ }
-    ensures { λ r. ⌜ Walked (triggersOf n (now (triggers .entry))) (keyAt (now (keys .entry))) k (eventsOf (now (events .entry))) n r (eventsOf (now (events .exit))) ⌝ }
+// A walk over the triggers of key k, along their chain: whether something was added.
+fn walk(events: &mut [u16], triggers: &[u8], chains: &[u16], n: u16, k: u16) -> bool
+    requires { ⌜ (length (now events) ≡ EVENTS) × Keyed k × Linked n (now chains) ⌝ }
+    ensures { λ r. ⌜ ((key : ℕ → ℕ) → Chained key n 0 (now (chains .entry)) → WalkedAt (now (triggers .entry)) n key k (now (events .entry)) r (now (events .exit))) ⌝ }
 {
     let mut changed = false;
-    let mut i: u16 = 0;
+    let mut i = number(chains, 256 + row_index(k));
     while i < n {
-        let new = turn(events, triggers, keys, k, i);
+        let new = turn(events, triggers, i);
         changed = changed | new;
-        i += 1;
+        i = number(chains, row_index(i));
     }
     changed
 }
 
-// Walks over the triggers of key k until one adds nothing. (For the solver alone, which has shown that the events are a buffer of 128 numbers and that k is not 0.)
-pub fn settle(events: &mut [u16], triggers: &[u8], keys: &[u16], n: u16, k: u16)
-    requires { ⌜ (length (now events) ≡ EVENTS) × (0 < k) ⌝ }
-    ensures keeps { λ _. ⌜ Keeps (triggersOf n (now (triggers .entry))) (keyAt (now (keys .entry))) k (eventsOf (now (events .entry))) (eventsOf (now (events .exit))) ⌝ }
-    ensures settled { λ _. ⌜ Settled (triggersOf n (now (triggers .entry))) (keyAt (now (keys .entry))) k (eventsOf (now (events .exit))) n ⌝ }
+// Walks over the triggers of key k until one adds nothing. (For the solver alone, which has shown that the events are a buffer of 128 numbers, that k is a key and not 0,
+// and that the triggers are chained.)
+pub fn settle(events: &mut [u16], triggers: &[u8], chains: &[u16], n: u16, k: u16)
+    requires { ⌜ (length (now events) ≡ EVENTS) × Keyed k × Linked n (now chains) ⌝ }
+    ensures { λ _. ⌜ ((key : ℕ → ℕ) → Chained key n 0 (now (chains .entry)) → SettledAt (now (triggers .entry)) n key k (now (events .entry)) (now (events .exit))) ⌝ }
 {
     loop {
-        if !walk(events, triggers, keys, n, k) {
+        if !walk(events, triggers, chains, n, k) {
             return;
         }
     }

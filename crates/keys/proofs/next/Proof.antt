@@ -1,50 +1,56 @@
--- `keys::next` meets its contract. The loop's invariant: none of the triggers below i has a key between k and `best`.
+-- `keys::next` meets its contract. The loop's invariant: no key lies between k and r.
 -- Assumes nothing.
-use mathlib.Core.Path.{_≡_}
-use Prim.Native.Nat.{_-_, _≤_, _<_}
-use Rattle.theory.specs.Laws.Stage.{Gap, gap-none, gap-next}
-use Rattle.keys.specs.Keys.{KEYS, keyAt}
+use mathlib.Core.Path.{_∙_, ap}
+use Prim.Native.Nat.{ℕ, _+_, _-_, _≤_, _<_}
+use lib.ListN.{getD}
+use Rattle.theory.specs.Laws.Stage.{Gap, gap-first}
+use Rattle.keys.specs.Keys.{KEYS, Chained}
+use Rattle.keys.specs.Laws.{chained-gap}
 use borrow.Author.Needs.{needs}
-use native.Mathlib.Omega.{arith}
 use Rattle.keys.proofs.next.Statement.{statement}
 use Rattle.keys.proofs.next.Tie as tie
 
 abbrev Inv-loop : tie.InvT-loop
-Inv-loop keys n k best₀ i₀ best i = (i ≤ n) × (k < best) × (best ≤ KEYS) × Gap (keyAt keys) i k best
+Inv-loop chains n k r₀ r = (k < r) × (r ≤ KEYS) × ((key : ℕ → ℕ) → Chained key n 0 chains → Gap key n k r)
 
 abbrev μ-loop : tie.MeasureT-loop
-μ-loop keys n k best₀ i₀ best i = n - i
+μ-loop chains n k r₀ r = KEYS - r
+
+add-r : tie.Need-add-r Inv-loop μ-loop
+add-r c = search needs
 
 loop-holds : tie.Need-loop-holds Inv-loop μ-loop
-loop-holds c = (search needs, search needs, search needs, gap-none _ _ _)
+loop-holds c = (search needs, search needs, λ key _. gap-first key _ _)
 
-key-at-requires : tie.Need-key-at-requires Inv-loop μ-loop
-key-at-requires c κs = search needs
+row-index-requires : tie.Need-row-index-requires Inv-loop μ-loop
+row-index-requires c κs = search needs
 
-nearer-requires : tie.Need-nearer-requires Inv-loop μ-loop
-nearer-requires c κs = search needs
+add-number : tie.Need-add-number Inv-loop μ-loop
+add-number c = search needs
 
-add-i : tie.Need-add-i Inv-loop μ-loop
-add-i c = search needs
+number-requires : tie.Need-number-requires Inv-loop μ-loop
+number-requires c κs = search needs
+
+returns : tie.Need-returns Inv-loop μ-loop
+returns c = c .before .before .before .before .loop .inv
+
+add-r-2 : tie.Need-add-r-2 Inv-loop μ-loop
+add-r-2 c = search needs
 
 loop-less : tie.Need-loop-less Inv-loop μ-loop
 loop-less c = search needs
 
 loop-again : tie.Need-loop-again Inv-loop μ-loop
 loop-again c =
-    let d = c .before .before .before in
-    let e = c .nearer .ensures in (
+    let d = c .before .before .before .before in
+    let i = d .loop .inv in (
       search needs,
-      e .0,
-      omega (arith, e .1),
-      gap-next (keyAt (d .before .before .args .keys .now)) (d .loop .i) _ _ _ _ (c .before .key-at .ensures) (d .loop .inv .3) (e .1) (e .2),
+      search needs,
+      λ key h. chained-gap key _ _ _ (d .loop .r) _ (c .before .number .ensures ∙ ap (λ (x : ℕ). getD (d .before .before .args .chains .now) (256 + x) 0) (c .before .before .row-index .ensures)) (search needs) (search needs) h (i .2 key h),
     )
 
-returns : tie.Need-returns Inv-loop μ-loop
-returns c =
-    let d = c .before in
-    let e : d .loop .i ≡ d .before .before .args .n = omega arith in
-    (d .loop .inv .1, d .loop .inv .2, rw e at (d .loop .inv .3))
+returns-2 : tie.Need-returns-2 Inv-loop μ-loop
+returns-2 c = c .before .loop .inv
 
 pub next-spec : {M : Type 1} → statement M
 next-spec =
@@ -52,10 +58,13 @@ next-spec =
     (tie.spec
     Inv-loop
     μ-loop
+    add-r
     loop-holds
-    key-at-requires
-    nearer-requires
-    add-i
+    row-index-requires
+    add-number
+    number-requires
+    returns
+    add-r-2
     loop-less
     loop-again
-    returns)
+    returns-2)

@@ -6,7 +6,7 @@ use lib.ListN.{length}
 use Rattle.theory.specs.Laws.Stage.{Reached, reached-first, reached-next}
 use Rattle.tables.specs.Layout.{sheetOf, triggersOf}
 use Rattle.tables.specs.Buffers.{eventsOf}
-use Rattle.keys.specs.Keys.{KEYS, keyAt}
+use Rattle.keys.specs.Keys.{KEYS, keyIn}
 use Rattle.solver.specs.Laws.{solved-last}
 use borrow.Author.Needs.{needs}
 use native.Mathlib.Omega.{arith}
@@ -14,14 +14,14 @@ use Rattle.solver.proofs.by_keys.Statement.{statement}
 use Rattle.solver.proofs.by_keys.Tie as tie
 
 abbrev Inv-loop : tie.InvT-loop
-Inv-loop events₀ levels triggers n roles keys k₀ events k =
-    (length events ≡ length events₀) × (0 < k) × (k ≤ KEYS) × Reached (triggersOf n triggers) (keyAt keys) (eventsOf events₀) k (eventsOf events)
+Inv-loop events₀ levels triggers n roles chains k₀ events k =
+    (length events ≡ length events₀) × (0 < k) × (k ≤ KEYS) × Reached (triggersOf n triggers) (keyIn triggers levels roles n) (eventsOf events₀) k (eventsOf events)
 
 abbrev μ-loop : tie.MeasureT-loop
-μ-loop events₀ levels triggers n roles keys k₀ events k = KEYS - k
+μ-loop events₀ levels triggers n roles chains k₀ events k = KEYS - k
 
-keys-requires : tie.Need-keys-requires Inv-loop μ-loop
-keys-requires c κs = c .before .before .before .pre .1
+chains-requires : tie.Need-chains-requires Inv-loop μ-loop
+chains-requires c κs = c .before .before .before .pre .1
 
 slice-aggregate-next : tie.Need-slice-aggregate-next Inv-loop μ-loop
 slice-aggregate-next c = search needs
@@ -34,7 +34,7 @@ unfolding sheetOf
 loop-holds c =
     let a = c .before .before .before .before .before .before .args in
     let e = c .next .ensures in
-    (refl, e .0, e .1, reached-first (triggersOf (a .n) (a .triggers .now)) _ _ _ (e .2))
+    (refl, e .0, e .1, reached-first (triggersOf (a .n) (a .triggers .now)) _ _ _ (e .2 _ (c .before .before .chains .ensures)))
 
 slice-aggregate-settle : tie.Need-slice-aggregate-settle Inv-loop μ-loop
 slice-aggregate-settle c = search needs
@@ -42,7 +42,7 @@ slice-aggregate-settle c = search needs
 settle-requires : tie.Need-settle-requires Inv-loop μ-loop
 settle-requires c κs =
     let d = c .before .before .before in
-    (d .loop .inv .0 ∙ d .before .before .before .before .before .before .before .pre .0, d .loop .inv .1)
+    (d .loop .inv .0 ∙ d .before .before .before .before .before .before .before .pre .0, (d .loop .inv .1, search needs), (_, d .before .before .before .chains .ensures))
 
 slice-aggregate-next-2 : tie.Need-slice-aggregate-next-2 Inv-loop μ-loop
 slice-aggregate-next-2 c = search needs
@@ -59,11 +59,13 @@ loop-again c =
     let s = c .before .before .before .before in
     let d = s .before .before .before .before in
     let a = d .before .before .before .before .before .before .before .args in
+    let h = d .before .before .before .chains .ensures in
+    let p = s .settle .ensures _ h in
     let e = c .next2 .ensures in (
       s .settle .kept .0 ∙ d .loop .inv .0,
       omega (arith, e .0),
       e .1,
-      reached-next (triggersOf (a .n) (a .triggers .now)) _ _ _ _ _ _ (e .0) (e .2) (s .settle .ensures .0) (s .settle .ensures .1) (d .loop .inv .3),
+      reached-next (triggersOf (a .n) (a .triggers .now)) _ _ _ _ _ _ (e .0) (e .2 _ h) (p .0) (p .1) (d .loop .inv .3),
     )
 
 same-length : tie.Need-same-length Inv-loop μ-loop
@@ -74,8 +76,8 @@ returns c =
     let d = c .before in
     let k = d .before .before .before in
     let s = k .before .before .before .before in
-    solved-last (s .args .levels .now) (s .args .triggers .now) (s .args .n) (s .args .roles) _ _ (k .keys .result) (d .loop .k)
-    (d .loop .inv .0) (s .pre .1) (omega (arith, c .loop-test .left)) (k .keys .ensures .0) (k .keys .ensures .1) (d .loop .inv .3)
+    solved-last (s .args .levels .now) (s .args .triggers .now) (s .args .n) (s .args .roles) _ _ (d .loop .k)
+    (d .loop .inv .0) (omega (arith, c .loop-test .left)) (k .chains .ensures .fits) (d .loop .inv .3)
 
 pub by-keys-spec : {M : Type 1} → statement M
 by-keys-spec =
@@ -83,7 +85,7 @@ by-keys-spec =
     (tie.spec
     Inv-loop
     μ-loop
-    keys-requires
+    chains-requires
     slice-aggregate-next
     next-requires
     loop-holds

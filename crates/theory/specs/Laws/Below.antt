@@ -7,11 +7,16 @@ use Prim.Native.Nat.{ℕ, zero, suc, _+_, _≤_, _<_}
 use native.Mathlib.Nat.{eq-or-lt-of-le, le-of-suc-le-suc}
 use native.Mathlib.Numerals.{add-one}
 use native.Mathlib.Omega.{arith}
+use lib.Dec.{ltb}
+use borrow.Author.Tests.{ltb-true, ltb-false}
 use Rattle.theory.specs.Below.{anyBelow, allBelow, one, countBelow}
 use Rattle.theory.specs.Laws.Tests.{and-left, and-right, and-both, or-left, or-right, or-cases, test, not-both, is-false, bool-ext}
 
 pub below-cases : {i n : ℕ} → i < suc n → (i ≡ n) ⊎ (i < n)
 below-cases h = eq-or-lt-of-le (le-of-suc-le-suc h)
+
+pub lt-or-le : (a b : ℕ) → (a < b) ⊎ (b ≤ a)
+lt-or-le a b = ⊎-elim (λ (t : ltb a b ≡ true). inl (ltb-true a b t)) (λ (t : ltb a b ≡ false). inr (ltb-false a b t)) (test (ltb a b))
 
 -- ---- some
 

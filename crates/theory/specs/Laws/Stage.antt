@@ -5,18 +5,19 @@ use mathlib.Core.Path.{_≡_, refl, sym, ap, _∙_, fun-ext, subst}
 use mathlib.Core.Logic.{_⊎_, inl, inr, ⊎-elim}
 use mathlib.Core.Bool.{Bool, true, false, cond, _&&_, _||_, and-false, true≢false, false≢true}
 use Prim.Native.Nat.{ℕ, suc, _+_, _*_, _/_, _%_, _≤_, _<_}
+use native.Mathlib.Nat.{eq-or-lt-of-le}
 use native.Mathlib.Numerals.{add-one}
 use native.Mathlib.Omega.{arith}
 use lib.Dec.{eqb, ltb}
-use borrow.Author.Tests.{eqb-true, eq-eqb, lt-ltb}
+use borrow.Author.Tests.{eqb-true, lt-ltb}
 use Rattle.theory.specs.Numbers.{EVENTS, PRIORITIES}
 use Rattle.theory.specs.Below.{countBelow}
 use Rattle.theory.specs.Events.{Events, Roles, conf}
 use Rattle.theory.specs.Sheet.{Trigger, Sheet, GoodOrder, is}
 use Rattle.theory.specs.Instant.{allows, met, ready, Closed, IsLeast}
 use Rattle.theory.specs.Graph.{counts, Levels}
-use Rattle.theory.specs.Laws.Tests.{and-left, and-right, and-both, or-left, or-right, or-cases, or-none-left, or-none-right, test, not-both, bool-ext}
-use Rattle.theory.specs.Laws.Below.{below-cases, count-le, count-mono, count-strict}
+use Rattle.theory.specs.Laws.Tests.{and-left, and-both, or-left, or-right, or-cases, or-none-left, or-none-right, test, not-both, bool-ext}
+use Rattle.theory.specs.Laws.Below.{below-cases, lt-or-le, count-le, count-mono, count-strict}
 use Rattle.theory.specs.Laws.Instant.{Part, met-map}
 use Rattle.theory.specs.Laws.Unique.{Stratified, AgreeBelow}
 use Rattle.theory.specs.Laws.Exists.{is-self, is-only}
@@ -200,35 +201,25 @@ Settled sh key m X n = (i : ℕ) → i < n → key i ≡ m → prioritized (sh .
 abbrev pub Gap : (ℕ → ℕ) → ℕ → ℕ → ℕ → Type 0
 Gap key n k r = (i : ℕ) → i < n → (key i ≤ k) ⊎ (r ≤ key i)
 
-pub gap-none : (key : ℕ → ℕ) (k r : ℕ) → Gap key 0 k r
-gap-none key k r i l = absurd (omega arith)
-
--- one trigger more was looked at
-pub gap-next : (key : ℕ → ℕ) (n v k r r′ : ℕ) → v ≡ key n → Gap key n k r → r′ ≤ r → (v ≤ k) ⊎ (r′ ≤ v) → Gap key (n + 1) k r′
-gap-next key n v k r r′ q g l h i m =
-    let im : i < suc n = omega arith in
+-- no trigger has the key r
+pub gap-wider : (key : ℕ → ℕ) (n k r : ℕ) → Gap key n k r → ((i : ℕ) → i < n → ¬ (key i ≡ r)) → Gap key n k (r + 1)
+gap-wider key n k r g none i l =
     ⊎-elim
-    (λ (e : i ≡ n). rw (e, ← q) h)
-    (λ (e : i < n). ⊎-elim (λ (x : key i ≤ k). inl x) (λ (x : r ≤ key i). inr (omega arith)) (g i e))
-    (below-cases im)
+    (λ (x : key i ≤ k). inl x)
+    (λ (x : r ≤ key i). inr (⊎-elim (λ (y : r ≡ key i). absurd (none i l (sym y))) (λ (y : r < key i). omega arith) (eq-or-lt-of-le x)))
+    (g i l)
 
--- a trigger with this key acts in X among those of key m
-unfoldable pub actsAt : ℕ → ℕ → Events → Trigger → Bool
-actsAt key m X g = eqb key m && met X X g
+-- between a key and the next number lies none
+pub gap-first : (key : ℕ → ℕ) (n k : ℕ) → Gap key n k (k + 1)
+gap-first key n k i l = ⊎-elim (λ (x : key i < k + 1). inl (omega arith)) (λ (x : k + 1 ≤ key i). inr x) (lt-or-le (key i) (k + 1))
 
--- the turn of a trigger of another key, of one whose body is not met, and of one that acts
-pub turn-other : (key m : ℕ) (X : Events) (g : Trigger) → (key ≡ m → ⊥) → Turn (actsAt key m X g) X (g .head) (g .priority) false X
-unfolding actsAt
-turn-other key m X g h = turn-idle (eqb key m && met X X g) X (g .head) (g .priority) (λ a. absurd (h (eqb-true key m (and-left (eqb key m) (met X X g) a))))
+-- the turn of a trigger whose body is not met, and of one that acts
+pub turn-unmet : (X : Events) (g : Trigger) → met X X g ≡ false → Turn (met X X g) X (g .head) (g .priority) false X
+turn-unmet X g h = turn-idle (met X X g) X (g .head) (g .priority) (λ a. not-both a h)
 
-pub turn-unmet : (key m : ℕ) (X : Events) (g : Trigger) → met X X g ≡ false → Turn (actsAt key m X g) X (g .head) (g .priority) false X
-unfolding actsAt
-turn-unmet key m X g h = turn-idle (eqb key m && met X X g) X (g .head) (g .priority) (λ a. not-both (and-right (eqb key m) (met X X g) a) h)
-
-pub turn-met : (key m : ℕ) (X : Events) (g : Trigger) (e p : ℕ) (new : Bool) (X′ : Events) → key ≡ m → met X X g ≡ true → e ≡ g .head → p ≡ g .priority
-    → Turn true X e p new X′ → Turn (actsAt key m X g) X (g .head) (g .priority) new X′
-unfolding actsAt
-turn-met key m X g e p new X′ k h u v t = rw (eq-eqb key m k, h, ← u, ← v) t
+pub turn-met : (X : Events) (g : Trigger) (e p : ℕ) (new : Bool) (X′ : Events) → met X X g ≡ true → e ≡ g .head → p ≡ g .priority
+    → Turn true X e p new X′ → Turn (met X X g) X (g .head) (g .priority) new X′
+turn-met X g e p new X′ h u v t = rw (h, ← u, ← v) t
 
 -- ---- a walk over the triggers of one key
 
@@ -247,29 +238,20 @@ module _ (sh : Sheet) (key : ℕ → ℕ) (m : ℕ) (X : Events) where
   pub walked-none : Walked sh key m X 0 false X
   walked-none = record { keeps = λ on G level st ks d. d; settled = λ _ i l. absurd (omega arith); most = omega arith; more = λ h. absurd (false≢true h) }
 
-  pub walked-turn : (n : ℕ) (c : Bool) (Y : Events) (d : Bool) (Y′ : Events) → 0 < m → n < sh .triggerCount
-      → Walked sh key m X n c Y → Turn (actsAt (key n) m Y (sh .trigger n)) Y (sh .trigger n .head) (sh .trigger n .priority) d Y′ → Walked sh key m X (n + 1) (c || d) Y′
-  unfolding actsAt
-  walked-turn n c Y d Y′ z l w t =
-      let acts : Bool = eqb (key n) m && met Y Y (sh .trigger n) in
+  pub walked-turn : (n : ℕ) (c : Bool) (Y : Events) (d : Bool) (Y′ : Events) → 0 < m → n < sh .triggerCount → key n ≡ m
+      → Walked sh key m X n c Y → Turn (met Y Y (sh .trigger n)) Y (sh .trigger n .head) (sh .trigger n .priority) d Y′ → Walked sh key m X (n + 1) (c || d) Y′
+  walked-turn n c Y d Y′ z l k w t =
       record {
         keeps = λ on G level st ks start.
-            done-turn sh on G level st m n acts Y Y′ d l
-            (λ a.
-            let k : key n ≡ m = eqb-true _ _ (and-left (eqb (key n) m) _ a) in
             let o : on n ≡ true = ⊎-elim (λ (x : on n ≡ true). x) (λ (x : on n ≡ false). absurd (omega (arith, ks .idle n l x))) (test (on n)) in
-            (o, sym (ks .acts n l o) ∙ k, and-right (eqb (key n) m) _ a))
-            t
-            (w .keeps on G level st ks start);
-        settled = λ y i il k f b.
+            done-turn sh on G level st m n (met Y Y (sh .trigger n)) Y Y′ d l (λ a. (o, sym (ks .acts n l o) ∙ k, a)) t (w .keeps on G level st ks start);
+        settled = λ y i il e f b.
             let same : Y′ ≡ Y = t .same (or-none-right c d y) in
             let b′ : met Y Y (sh .trigger i) ≡ true = subst (λ (Z : Events). met Z Z (sh .trigger i) ≡ true) same b in
             let im : i < suc n = omega arith in
             ⊎-elim
-            (λ (e : i ≡ n).
-            let a : acts ≡ true = subst (λ (x : ℕ). (eqb (key x) m && met Y Y (sh .trigger x)) ≡ true) e (and-both (eq-eqb (key i) m k) b′) in
-            rw e (t .there a (rw e at f)))
-            (λ (e : i < n). t .grows (sh .trigger i .head) (sh .trigger i .priority) (w .settled (or-none-left c d y) i e k f b′))
+            (λ (e : i ≡ n). rw e (t .there (rw e at b′) (rw e at f)))
+            (λ (h : i < n). t .grows (sh .trigger i .head) (sh .trigger i .priority) (w .settled (or-none-left c d y) i h e f b′))
             (below-cases im);
         most = omega (arith, w .most, size-mono Y Y′ (t .grows));
         more = λ y.
@@ -277,6 +259,17 @@ module _ (sh : Sheet) (key : ℕ → ℕ) (m : ℕ) (X : Events) where
             (λ (x : c ≡ true). omega (arith, w .more x, size-mono Y Y′ (t .grows)))
             (λ (x : d ≡ true). omega (arith, w .most, t .more x))
             (or-cases c d y);
+      }
+
+  -- triggers of other keys have no turn
+  pub walked-past : (n r : ℕ) (c : Bool) (Y : Events) → ((i : ℕ) → n ≤ i → i < r → ¬ (key i ≡ m)) → Walked sh key m X n c Y → Walked sh key m X r c Y
+  walked-past n r c Y none w =
+      record {
+        keeps = w .keeps;
+        settled = λ y i il e f b.
+            ⊎-elim (λ (h : i < n). w .settled y i h e f b) (λ (h : n ≤ i). absurd (none i h il e)) (lt-or-le i n);
+        most = w .most;
+        more = w .more;
       }
 
 -- ---- the keys in order

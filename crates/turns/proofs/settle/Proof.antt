@@ -1,32 +1,33 @@
 -- `turns::settle` meets its contract. The loop's invariant: the walks so far keep the solver's invariant. It ends, since a walk that is not the last has added a member.
 -- Assumes nothing.
 use mathlib.Core.Path.{_≡_, refl, _∙_}
-use Prim.Native.Nat.{_-_}
+use Prim.Native.Nat.{ℕ, _-_}
 use lib.ListN.{length}
 use borrow.Author.Tests.{not-true, not-false}
 use Rattle.theory.specs.Laws.Stage.{MEMBERS, sizeOf, size-most, Keeps}
 use Rattle.tables.specs.Layout.{triggersOf}
 use Rattle.tables.specs.Buffers.{eventsOf}
-use Rattle.keys.specs.Keys.{keyAt}
+use Rattle.keys.specs.Keys.{Chained}
 use borrow.Author.Needs.{needs}
 use native.Mathlib.Omega.{arith}
 use Rattle.turns.proofs.settle.Statement.{statement}
 use Rattle.turns.proofs.settle.Tie as tie
 
 abbrev Inv-loop : tie.InvT-loop
-Inv-loop events₀ triggers keys n k events = (length events ≡ length events₀) × Keeps (triggersOf n triggers) (keyAt keys) k (eventsOf events₀) (eventsOf events)
+Inv-loop events₀ triggers chains n k events =
+    (length events ≡ length events₀) × ((key : ℕ → ℕ) → Chained key n 0 chains → Keeps (triggersOf n triggers) key k (eventsOf events₀) (eventsOf events))
 
 abbrev μ-loop : tie.MeasureT-loop
-μ-loop events₀ triggers keys n k events = MEMBERS - sizeOf (eventsOf events)
+μ-loop events₀ triggers chains n k events = MEMBERS - sizeOf (eventsOf events)
 
 loop-holds : tie.Need-loop-holds Inv-loop μ-loop
-loop-holds c = (refl, λ on G level st ks d. d)
+loop-holds c = (refl, λ key h on G level st ks d. d)
 
 walk-requires : tie.Need-walk-requires Inv-loop μ-loop
 walk-requires c κs =
     let d = c .before in
     let p = d .before .before .before .before .pre in
-    (d .loop .inv .0 ∙ p .0, p .1)
+    (d .loop .inv .0 ∙ p .0, p .1, p .2)
 
 same-length : tie.Need-same-length Inv-loop μ-loop
 same-length c = search needs
@@ -35,18 +36,21 @@ returns : tie.Need-returns Inv-loop μ-loop
 returns c =
     let w = c .before .before .before in
     let i = w .before .before .loop .inv in
-    (λ on G level st ks d. w .walk .ensures .keeps on G level st ks (i .1 on G level st ks d), w .walk .ensures .settled (not-true _ (c .if1 .taken)))
+    λ key h.
+    let e = w .walk .ensures key h in
+    (λ on G level st ks d. e .keeps on G level st ks (i .1 key h on G level st ks d), e .settled (not-true _ (c .if1 .taken)))
 
 loop-less : tie.Need-loop-less Inv-loop μ-loop
 loop-less c =
     let w = c .before .before .before in
-    omega (arith, w .walk .ensures .more (not-false _ (c .if1 .left)), size-most (eventsOf (w .walk .last .0)))
+    let p = w .before .before .before .before .before .before .pre in
+    omega (arith, w .walk .ensures (p .2 .0) (p .2 .1) .more (not-false _ (c .if1 .left)), size-most (eventsOf (w .walk .last .0)))
 
 loop-again : tie.Need-loop-again Inv-loop μ-loop
 loop-again c =
     let w = c .before .before .before in
     let i = w .before .before .loop .inv in
-    (w .walk .kept .0 ∙ i .0, λ on G level st ks d. w .walk .ensures .keeps on G level st ks (i .1 on G level st ks d))
+    (w .walk .kept .0 ∙ i .0, λ key h on G level st ks d. w .walk .ensures key h .keeps on G level st ks (i .1 key h on G level st ks d))
 
 pub settle-spec : {M : Type 1} → statement M
 settle-spec =

@@ -1,46 +1,64 @@
--- `turns::walk` meets its contract. The loop's invariant: the triggers below i had their turn.
+-- `turns::walk` meets its contract. The loop's invariant: the walk has come to trigger i.
 -- Assumes nothing.
-use mathlib.Core.Path.{_≡_, refl, _∙_}
-use Prim.Native.Nat.{_-_, _≤_}
-use lib.ListN.{length}
-use Rattle.theory.specs.Laws.Stage.{Walked, walked-none, walked-turn}
-use Rattle.tables.specs.Layout.{sheetOf, triggersOf}
+use mathlib.Core.Path.{_≡_, refl, ap, _∙_}
+use Prim.Native.Nat.{ℕ, _+_, _-_}
+use lib.ListN.{length, getD}
 use Rattle.tables.specs.Buffers.{eventsOf}
-use Rattle.keys.specs.Keys.{keyAt}
+use Rattle.keys.specs.Keys.{afterOf}
+use Rattle.keys.specs.Laws.{chained-onward}
+use Rattle.turns.specs.Turns.{Walking}
+use Rattle.turns.specs.Laws.{walking-first, walking-next, walking-end}
 use borrow.Author.Needs.{needs}
 use native.Mathlib.Omega.{arith}
 use Rattle.turns.proofs.walk.Statement.{statement}
 use Rattle.turns.proofs.walk.Tie as tie
 
 abbrev Inv-loop : tie.InvT-loop
-Inv-loop events₀ triggers keys n k changed₀ i₀ events changed i = (i ≤ n) × (length events ≡ length events₀) × Walked (triggersOf n triggers) (keyAt keys) k (eventsOf events₀) i changed (eventsOf events)
+Inv-loop events₀ triggers chains n k changed₀ i₀ events changed i = (length events ≡ length events₀) × Walking triggers chains n k (eventsOf events₀) i changed (eventsOf events)
 
 abbrev μ-loop : tie.MeasureT-loop
-μ-loop events₀ triggers keys n k changed₀ i₀ events changed i = n - i
+μ-loop events₀ triggers chains n k changed₀ i₀ events changed i = n - i
+
+row-index-requires : tie.Need-row-index-requires Inv-loop μ-loop
+row-index-requires c κs = search needs
+
+add-number : tie.Need-add-number Inv-loop μ-loop
+add-number c = search needs
+
+number-requires : tie.Need-number-requires Inv-loop μ-loop
+number-requires c κs = search needs
 
 loop-holds : tie.Need-loop-holds Inv-loop μ-loop
-loop-holds c = (search needs, refl, walked-none _ _ _ _)
+loop-holds c =
+    let s = c .before .before .before .before .before in
+    (refl, walking-first _ _ _ _ _ _ (c .number .ensures ∙ ap (λ (x : ℕ). getD (s .args .chains .now) (256 + x) 0) (c .before .row-index .ensures)) (s .pre .1 .1))
 
 turn-requires : tie.Need-turn-requires Inv-loop μ-loop
 turn-requires c κs =
     let d = c .before .before in
-    d .loop .inv .1 ∙ d .before .before .before .before .pre .0
+    d .loop .inv .0 ∙ d .before .before .before .before .before .before .pre .0
 
-add-i : tie.Need-add-i Inv-loop μ-loop
-add-i c = search needs
+row-index-requires-2 : tie.Need-row-index-requires-2 Inv-loop μ-loop
+row-index-requires-2 c κs = search needs
+
+number-requires-2 : tie.Need-number-requires-2 Inv-loop μ-loop
+number-requires-2 c κs = search needs
 
 loop-less : tie.Need-loop-less Inv-loop μ-loop
-loop-less c = search needs
+loop-less c =
+    let t = c .before .before .before .before in
+    let d = t .before .before .before in
+    let s = d .before .before .before .before .before .before in
+    omega (arith, chained-onward _ _ _ (s .pre .2 .1) (d .loop .i) (search needs), c .number2 .ensures ∙ ap (afterOf (s .args .chains .now)) (c .before .row-index2 .ensures))
 
 loop-again : tie.Need-loop-again Inv-loop μ-loop
-unfolding sheetOf
 loop-again c =
-    let t = c .before .before in
+    let t = c .before .before .before .before in
     let d = t .before .before .before in
-    let s = d .before .before .before .before in (
-      search needs,
-      t .turn .kept .0 ∙ d .loop .inv .1,
-      walked-turn (triggersOf (s .args .n) (s .args .triggers .now)) (keyAt (s .args .keys .now)) _ _ (d .loop .i) _ _ _ _ (s .pre .1) (search needs) (d .loop .inv .2) (t .turn .ensures),
+    let s = d .before .before .before .before .before .before in (
+      t .turn .kept .0 ∙ d .loop .inv .0,
+      walking-next _ _ _ _ _ (d .loop .i) _ _ _ _ _ (s .pre .1 .0) (search needs) (c .number2 .ensures ∙ ap (afterOf (s .args .chains .now)) (c .before .row-index2 .ensures))
+          (t .turn .ensures) (d .loop .inv .1),
     )
 
 same-length : tie.Need-same-length Inv-loop μ-loop
@@ -49,8 +67,7 @@ same-length c = search needs
 returns : tie.Need-returns Inv-loop μ-loop
 returns c =
     let d = c .before in
-    let e : d .loop .i ≡ d .before .before .before .before .args .n = omega arith in
-    rw e at (d .loop .inv .2)
+    walking-end _ _ _ _ _ (d .loop .i) _ _ (search needs) (d .loop .inv .1)
 
 pub walk-spec : {M : Type 1} → statement M
 walk-spec =
@@ -58,9 +75,13 @@ walk-spec =
     (tie.spec
     Inv-loop
     μ-loop
+    row-index-requires
+    add-number
+    number-requires
     loop-holds
     turn-requires
-    add-i
+    row-index-requires-2
+    number-requires-2
     loop-less
     loop-again
     same-length
