@@ -2,21 +2,14 @@
 -- Assumes nothing.
 use mathlib.Core.Path.{_≡_}
 use Prim.Native.Nat.{ℕ}
-use Rattle.theory.specs.Graph.{pairPlace}
 use Rattle.theory.specs.Laws.Exact.{exact}
 use Rattle.answers.specs.declared.Name.{Name}
 use Rattle.answers.specs.declared.Verdict.{Verdict}
 use Rattle.answers.specs.declared.Answer.{Answer}
-use Rattle.answers.specs.Answers.{numberOf, answered, refuse}
+use Rattle.answers.specs.Answers.{numberOf, answered}
 
 pub number-of-exact : (name : Name) (r r′ : ℕ) → r ≡ numberOf name → r′ ≡ numberOf name → r ≡ r′
 number-of-exact name r r′ = exact
 
 pub answer-of-exact : (verdict : Verdict) (r r′ : Answer) → r ≡ answered verdict → r′ ≡ answered verdict → r ≡ r′
 answer-of-exact verdict r r′ = exact
-
-pub pair-place-exact : (from to r r′ : ℕ) → r ≡ pairPlace from to → r′ ≡ pairPlace from to → r ≡ r′
-pair-place-exact from to r r′ = exact
-
-pub refuse-exact : (name : Name) (place : ℕ) (r r′ : Verdict) → r ≡ refuse name place → r′ ≡ refuse name place → r ≡ r′
-refuse-exact name place r r′ = exact

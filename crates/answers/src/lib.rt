@@ -1,7 +1,5 @@
 ghost use mathlib.Core.Path.{_≡_};
-ghost use Prim.Native.Nat.{_+_, _*_};
-ghost use Rattle.answers.specs.Answers.{numberOf, answered, refuse};
-ghost use Rattle.theory.specs.Graph.{pairPlace};
+ghost use Rattle.answers.specs.Answers.{numberOf, answered};
 
 // The refusals of document 01, 'What comes back', by name.
 pub enum Name {
@@ -70,21 +68,4 @@ pub fn answer_of(verdict: Verdict) -> Answer
             }
         }
     }
-}
-
-// The verdict that gives a refusal.
-pub fn refuse(name: Name, place: u32) -> Verdict
-    ensures { λ r. ⌜ r ≡ refuse name place ⌝ }
-{
-    Verdict::Refuse(Refusal {
-        name: name,
-        place: place,
-    })
-}
-
-// The place of a loop from one event to another, the pair as 128 × from + to.
-pub fn pair_place(from: u8, to: u8) -> u32
-    ensures { λ r. ⌜ r ≡ pairPlace from to ⌝ }
-{
-    128 * (from as u32) + to as u32
 }

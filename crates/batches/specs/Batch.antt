@@ -9,8 +9,8 @@ use Rattle.theory.specs.Numbers.{REQUESTS}
 use Rattle.text.specs.Lines.{Lines, none, endless, line}
 use Rattle.frames.specs.Frame.{bytesOf}
 use Rattle.kinds.specs.Kinds.{kind}
-use Rattle.flats.specs.Flat.{FLAT-NUMBERS, putAt}
-use Rattle.tape_tests.specs.Tape.{ASK, instantOf, askedIn}
+use Rattle.requests.specs.Flat.{FLAT-NUMBERS, putAt}
+use Rattle.tape_frames.specs.Frame.{ASK, instantOf, askedIn}
 use Rattle.batches.specs.declared.Batch.{Batch}
 
 -- a line is a request of instant t

@@ -1,6 +1,6 @@
 -- Laws of the requests of one instant: one turn of the loop that takes them.
 -- Assumes nothing.
-use mathlib.Core.Path.{_≡_, refl, ap, _∙_}
+use mathlib.Core.Path.{_≡_, refl, _∙_}
 use mathlib.Core.Bool.{true, false, _&&_}
 use mathlib.Core.List.{List}
 use Prim.Native.Nat.{ℕ, _+_, _-_, _≤_, _<_}
@@ -10,12 +10,12 @@ use lib.ListN.{length, take, drop, length-drop, length-take, drop-of-length-le}
 use borrow.Author.Tests.{ltb-true}
 use Rattle.theory.specs.Numbers.{REQUESTS}
 use Rattle.theory.specs.Laws.Tests.{and-right}
-use Rattle.text.specs.Lines.{Lines, line, lines}
+use Rattle.text.specs.Lines.{Lines, lines}
 use Rattle.text.specs.Laws.Lines.{span, line-here, endless-here}
 use Rattle.frames.specs.Frame.{bytesOf}
-use Rattle.flats.specs.Flat.{FLAT-NUMBERS, putAt}
-use Rattle.flats.specs.Laws.{put-size}
-use Rattle.tape_tests.specs.Tape.{askedIn}
+use Rattle.requests.specs.Flat.{FLAT-NUMBERS, putAt}
+use Rattle.requests.specs.Laws.Flat.{put-size}
+use Rattle.tape_frames.specs.Frame.{askedIn}
 use Rattle.batches.specs.declared.Batch.{Batch}
 use Rattle.batches.specs.Batch.{isOf, taken, takes, rest}
 

@@ -6,13 +6,13 @@ ghost use lib.ListN.{length, drop};
 ghost use Rattle.theory.specs.Numbers.{REQUESTS};
 ghost use Rattle.text.specs.Lines.{lines};
 ghost use Rattle.frames.specs.Frame.{bytesOf};
-ghost use Rattle.flats.specs.Flat.{FLAT-NUMBERS, putAt};
-ghost use Rattle.tape_tests.specs.Tape.{askedIn};
+ghost use Rattle.requests.specs.Flat.{FLAT-NUMBERS, putAt};
+ghost use Rattle.tape_frames.specs.Frame.{askedIn};
 ghost use Rattle.batches.specs.Batch.{isOf, takes, rest, noneYet};
 use basic::both;
 use frames::byte_at;
-use tape_tests::asked_in;
-use tape_tests::instant_of;
+use tape_frames::asked_in;
+use tape_frames::instant_of;
 
 // The requests of one instant as flat numbers, how many there are, and where the tape goes on.
 pub struct Batch {

@@ -4,14 +4,10 @@ use mathlib.Core.Path.{_≡_}
 use mathlib.Core.Bool.{Bool}
 use mathlib.Core.List.{List}
 use Prim.Native.Nat.{ℕ}
-use Rattle.theory.specs.Events.{holds}
 use Rattle.theory.specs.Instant.{allows, met}
 use Rattle.theory.specs.Laws.Exact.{exact}
 use Rattle.tables.specs.Layout.{triggerAt}
 use Rattle.tables.specs.Buffers.{rolesOf, eventsOf}
-
-pub holds-exact : (roles c : ℕ) (r r′ : Bool) → r ≡ holds (rolesOf roles) c → r′ ≡ holds (rolesOf roles) c → r ≡ r′
-holds-exact roles c r r′ = exact
 
 pub allows-exact : (table : List ℕ) (i roles : ℕ) (r r′ : Bool) → r ≡ allows (rolesOf roles) (triggerAt table i) → r′ ≡ allows (rolesOf roles) (triggerAt table i) → r ≡ r′
 allows-exact table i roles r r′ = exact

@@ -5,13 +5,14 @@ ghost use Rattle.tables.specs.Layout.{triggerAt};
 ghost use Rattle.tables.specs.Buffers.{rolesOf, eventsOf};
 use live::live;
 use roles::role_on;
+use tables::CONDITION_COUNT;
+use tables::EVENT_COUNT;
+use tables::trigger_byte;
 use triggers::condition;
-use triggers::condition_count;
 use triggers::event;
-use triggers::event_count;
 
 // The condition c holds in the roles.
-pub fn holds(roles: u64, c: u8) -> bool
+fn holds(roles: u64, c: u8) -> bool
     ensures { λ r. ⌜ r ≡ holds (rolesOf roles) c ⌝ }
 {
     let on = role_on(roles, c / 2);
@@ -25,7 +26,7 @@ pub fn holds(roles: u64, c: u8) -> bool
 pub fn allows(triggers: &[u8], i: u16, roles: u64) -> bool
     ensures { λ r. ⌜ r ≡ allows (rolesOf roles) (triggerAt (now (triggers .entry)) i) ⌝ }
 {
-    let n = condition_count(triggers, i);
+    let n = trigger_byte(triggers, i, CONDITION_COUNT);
     let mut j: u8 = 0;
     while j < n {
         let c = condition(triggers, i, j);
@@ -41,7 +42,7 @@ pub fn allows(triggers: &[u8], i: u16, roles: u64) -> bool
 pub fn met(events: &[u16], triggers: &[u8], i: u16) -> bool
     ensures { λ r. ⌜ r ≡ met (eventsOf (now (events .entry))) (eventsOf (now (events .entry))) (triggerAt (now (triggers .entry)) i) ⌝ }
 {
-    let n = event_count(triggers, i);
+    let n = trigger_byte(triggers, i, EVENT_COUNT);
     let mut j: u8 = 0;
     while j < n {
         let e = event(triggers, i, j);

@@ -1,43 +1,20 @@
 -- A day: what is printed of an input (document 01, 'The day program').
 -- Assumes nothing.
 use mathlib.Core.Path.{_≡_}
-use mathlib.Core.Bool.{cond}
-use mathlib.Core.List.{List, [], _++_}
-use Prim.Native.Nat.{ℕ, zero, suc, _+_, _^_}
+use mathlib.Core.List.{List, _++_}
+use Prim.Native.Nat.{ℕ, suc}
 use lib.ListN.{length, drop}
-use Rattle.theory.specs.Numbers.{ROLES, EVENTS}
-use Rattle.theory.specs.Below.{countBelow}
-use Rattle.theory.specs.Events.{Events, Roles, nonblocked}
 use Rattle.theory.specs.Sheet.{Sheet}
 use Rattle.theory.specs.Model.{Stream, Trace, ExecutionModel, noRoles}
 use Rattle.answers.specs.declared.Name.the-variants.{Length}
 use Rattle.answers.specs.declared.Verdict.{Verdict}
 use Rattle.answers.specs.declared.Verdict.the-variants.{Pass, Refuse}
 use Rattle.answers.specs.Answers.{numberOf, refuse}
-use Rattle.prints.specs.Print.{lineOf, refusalFrame, minuteFrame}
+use Rattle.prints.specs.Print.{lineOf}
+use Rattle.printed_frames.specs.Frames.{refusalFrame}
 use Rattle.openings.specs.Opening.{Opening, opens, refuses, opening}
+use Rattle.day_lines.specs.Lines.{minuteLines, OUTPUT-BYTES}
 use Rattle.days.specs.declared.Printed.{Printed}
-
--- ---- the lines
-
--- a set of roles as a number: role r has weight 2 to the power r
-unfoldable pub weightBelow : ℕ → Roles → ℕ
-weightBelow zero ST = 0
-weightBelow (suc n) ST = weightBelow n ST + cond (ST n) (2 ^ n) 0
-
--- the line of instant t: the roles after it, and the count of the events with a nonblocked member
-unfoldable pub lineAt : ℕ → Roles → Events → List ℕ
-lineAt t after S = lineOf (minuteFrame t (weightBelow ROLES after) (countBelow EVENTS (nonblocked S S)))
-
-unfoldable pub minuteLine : Trace → ℕ → List ℕ
-minuteLine tr t = lineAt t (tr .ST (suc t)) (tr .EV t)
-
--- the lines of the first n instants
-unfoldable pub minuteLines : Trace → ℕ → List ℕ
-minuteLines tr zero = []
-minuteLines tr (suc n) = minuteLines tr n ++ minuteLine tr n
-
--- ---- the day
 
 -- one line for each instant 0 to last, of the paper's canonical execution model of the sheet and the requests
 pub record PrintsDay (sh : Sheet) (RQ : Stream) (last : ℕ) (printed : List ℕ) : Type 0 where
@@ -56,10 +33,6 @@ answerTo (opens sh RQ last) = Pass
 answerTo (refuses r) = Refuse r
 
 -- ---- the lent buffer
-
--- the longest day: 10,081 lines of 31 bytes
-abbrev pub OUTPUT-BYTES : ℕ
-OUTPUT-BYTES = 312511
 
 -- what is printed of an opening stands at the front of the buffer, and the rest of it stays
 pub record Front (o : Opening) (out : List ℕ) (r : Printed) (out′ : List ℕ) : Type 0 where

@@ -23,9 +23,10 @@ use Rattle.openings.specs.declared.Opened.{Opened}
 use Rattle.openings.specs.declared.Opened.the-variants.{Opens, Refuses}
 use Rattle.openings.specs.Opening.{Opening, opening}
 use Rattle.openings.specs.Planned.{planned}
+use Rattle.day_lines.specs.Lines.{minuteLines, OUTPUT-BYTES}
+use Rattle.day_lines.specs.Run.{rulesOf, openingOf}
 use Rattle.days.specs.declared.Printed.{Printed}
-use Rattle.days.specs.Day.{minuteLines, Prints, OUTPUT-BYTES, Front, DayOutcome}
-use Rattle.days.specs.Run.{rulesOf, openingOf}
+use Rattle.days.specs.Day.{Prints, Front, DayOutcome}
 use Rattle.days.specs.Laws.Opened.{Opens-to, plan-opens, plan-refuses}
 
 -- an opening prints one thing

@@ -1,5 +1,4 @@
 -- A whole day, from an input's bytes to what is printed.
 pub mod Day
-pub mod Run
 pub mod Laws
 pub mod Exact

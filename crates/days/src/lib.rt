@@ -1,8 +1,9 @@
 ghost use mathlib.Core.Path.{_≡_};
 ghost use lib.ListN.{length};
 ghost use Rattle.openings.specs.Opening.{refuses, opening};
-ghost use Rattle.days.specs.Day.{OUTPUT-BYTES, Front, DayOutcome};
-ghost use Rattle.days.specs.Run.{Accepted, RunsTo, openingOf};
+ghost use Rattle.day_lines.specs.Lines.{OUTPUT-BYTES};
+ghost use Rattle.day_lines.specs.Run.{Accepted, RunsTo, openingOf};
+ghost use Rattle.days.specs.Day.{Front, DayOutcome};
 use answers::Name;
 use answers::Refusal;
 use answers::Verdict;
@@ -42,7 +43,7 @@ fn run(plan: Plan, periodics: &[u8], triggers: &[u8], tape: &[u8], out: &mut [u8
             &mut events,
         );
         let n = after::count(&events);
-        let frame = prints::minute_frame(t, turn.roles, n);
+        let frame = printed_frames::minute_frame(t, turn.roles, n);
         prints::put_line(out, 31 * (t as usize), &frame);
         at = turn.next;
         t += 1;
@@ -55,7 +56,7 @@ fn print_refusal(r: Refusal, out: &mut [u8]) -> Printed
     ensures { λ p. ⌜ Front (refuses r) (now (out .entry)) p (now (out .exit)) ⌝ }
 {
     let name = r.name;
-    let frame = prints::refusal_frame(answers::number_of(name), r.place);
+    let frame = printed_frames::refusal_frame(answers::number_of(name), r.place);
     prints::put_line(out, 0, &frame);
     Printed {
         verdict: Verdict::Refuse(r),
@@ -106,7 +107,10 @@ pub fn day(input: &[u8], out: &mut [u8]) -> Printed
         return print_day(input, out);
     }
     Printed {
-        verdict: answers::refuse(Name::Length, 0),
+        verdict: Verdict::Refuse(Refusal {
+            name: Name::Length,
+            place: 0,
+        }),
         length: 0,
     }
 }

@@ -42,7 +42,7 @@ fn residue(t: u32, period: u32, first: u32) -> u64
 }
 
 // A periodic row is due at the instant t.
-pub fn row_due(w: PeriodicRow, t: u32) -> bool
+fn row_due(w: PeriodicRow, t: u32) -> bool
     ensures { λ r. ⌜ r ≡ rowDue (periodicOf w) t ⌝ }
 {
     let begun = w.begin <= t;

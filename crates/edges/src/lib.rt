@@ -6,12 +6,16 @@ ghost use Rattle.rows.specs.Rows.{RowIs, Become};
 ghost use Rattle.edges.specs.Drawing.{tailOf, draws, drawsBelow, addedFrom};
 use rows::Row;
 use rows::Rows;
+use tables::DELAY;
+use tables::EVENT_COUNT;
+use tables::HEAD;
+use tables::trigger_byte;
 
 // Trigger i counts: its delay is 0.
 fn counts_at(triggers: &[u8], i: u16) -> bool
     ensures { λ r. ⌜ ((n : ℕ) → r ≡ counts (triggersOf n (now (triggers .entry))) i) ⌝ }
 {
-    triggers::delay(triggers, i) == 0
+    trigger_byte(triggers, i, DELAY) == 0
 }
 
 // The nodes: the head events of the first n triggers that count. The table may have any length and hold anything: past its end stands 0, and what is no event joins no row.
@@ -22,7 +26,7 @@ pub fn nodes(triggers: &[u8], n: u16) -> Row
     let mut i: u16 = 0;
     while i < n {
         let on = counts_at(triggers, i);
-        let head = triggers::head(triggers, i);
+        let head = trigger_byte(triggers, i, HEAD);
         rows::with(&mut heads, head, on);
         i += 1;
     }
@@ -44,8 +48,8 @@ fn draw_trigger(rows: &mut Rows, triggers: &[u8], i: u16, heads: &Row, negative:
     if !counts_at(triggers, i) {
         return;
     }
-    let head = triggers::head(triggers, i);
-    let m = triggers::event_count(triggers, i);
+    let head = trigger_byte(triggers, i, HEAD);
+    let m = trigger_byte(triggers, i, EVENT_COUNT);
     let mut j: u8 = 0;
     while j < m {
         let from = tail(triggers::event(triggers, i, j), negative);

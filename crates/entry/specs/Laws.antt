@@ -27,10 +27,10 @@ use Rattle.row_judge.specs.Judge.{Rules, sheetIn, judgeTables}
 use Rattle.requests.specs.declared.Request.{Request}
 use Rattle.requests.specs.Asked.{requestOf}
 use Rattle.requests.specs.Requests.{fits, firstOutside, judgeRequests}
+use Rattle.requests.specs.Flat.{FLAT-NUMBERS, putAt}
+use Rattle.requests.specs.Laws.Flat.{put-before, put-here}
 use Rattle.step.specs.Outcome.{Lent, stateIn, lengthsFit, judgeStep, Outcome}
 use Rattle.step.specs.Laws.Passes.{step-passes}
-use Rattle.flats.specs.Flat.{FLAT-NUMBERS, putAt}
-use Rattle.flats.specs.Laws.{put-before, put-here}
 use Rattle.entry.specs.Listed.{none, listed, Holds}
 
 -- ---- the flat numbers hold the first i records: none, one more, all

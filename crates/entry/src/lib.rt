@@ -1,13 +1,13 @@
 ghost use mathlib.Core.Path.{_≡_};
-ghost use Prim.Native.Nat.{min};
+ghost use Prim.Native.Nat.{_<_, min};
 ghost use lib.ListN.{length, replicate};
 ghost use Rattle.theory.specs.Numbers.{REQUESTS};
 ghost use Rattle.row_judge.specs.Judge.{rules};
+ghost use Rattle.requests.specs.Asked.{requestOf};
+ghost use Rattle.requests.specs.Flat.{FLAT-NUMBERS, putAt};
 ghost use Rattle.step.specs.Outcome.{lent, Outcome};
-ghost use Rattle.flats.specs.Flat.{FLAT-NUMBERS};
 ghost use Rattle.entry.specs.Listed.{listed, Holds};
 use answers::Verdict;
-use flats::put;
 use requests::Request;
 
 // The flat numbers of no request.
@@ -25,6 +25,19 @@ fn at_most(n: usize) -> usize
         return n;
     }
     32
+}
+
+// The flat numbers with request i put in.
+fn put(numbers: [u8; 96], i: usize, r: Request) -> [u8; 96]
+    requires { ⌜ i < REQUESTS ⌝ }
+    ensures { λ l. ⌜ l ≡ putAt numbers i (requestOf r) ⌝ }
+{
+    let mut l = numbers;
+    let at = 3 * i;
+    l[at] = r.event;
+    l[at + 1] = r.priority;
+    l[at + 2] = r.delay;
+    l
 }
 
 // The first 32 records as flat numbers.

@@ -19,10 +19,13 @@ pub fn loop_verdict(found: Found) -> Verdict
     ensures { λ r. ⌜ r ≡ loopVerdict found ⌝ }
 {
     match found {
-        Found::At(from, to) => Verdict::Refuse(Refusal {
-            name: Name::Loop,
-            place: answers::pair_place(from, to),
-        }),
+        Found::At(from, to) => {
+            let place = 128 * (from as u32) + to as u32;
+            Verdict::Refuse(Refusal {
+                name: Name::Loop,
+                place: place,
+            })
+        }
         Found::Nothing => Verdict::Pass,
     }
 }

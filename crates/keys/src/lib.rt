@@ -9,15 +9,16 @@ use basic::index;
 use basic::row_index;
 use bodies::allows;
 use masks::number;
+use tables::DELAY;
+use tables::HEAD;
 use tables::byte;
-use triggers::delay;
-use triggers::head;
+use tables::trigger_byte;
 
 // Trigger i counts: its delay is 0.
 fn counts_at(triggers: &[u8], i: u16) -> bool
     ensures { λ r. ⌜ ((n : ℕ) → r ≡ counts (triggersOf n (now (triggers .entry))) i) ⌝ }
 {
-    delay(triggers, i) == 0
+    trigger_byte(triggers, i, DELAY) == 0
 }
 
 // The key of trigger i: one more than the level of its head, and 0 where it does not count or its conditions do not all hold.
@@ -30,7 +31,7 @@ fn key_of(triggers: &[u8], levels: &[u8], roles: u64, i: u16) -> u16
     if !allows(triggers, i, roles) {
         return 0;
     }
-    let level = byte(levels, index(head(triggers, i)));
+    let level = byte(levels, index(trigger_byte(triggers, i, HEAD)));
     level as u16 + 1
 }
 

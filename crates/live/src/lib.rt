@@ -7,7 +7,7 @@ use basic::index;
 use masks::number;
 
 // Some priority of event e in the mask `own` is not blocked by the mask `against` of the conflicting event: one comparison of their highest priorities.
-pub fn alive(own: u16, against: u16, e: u8) -> bool
+fn alive(own: u16, against: u16, e: u8) -> bool
     ensures { λ r. ⌜ r ≡ aliveIn own against e ⌝ }
 {
     let a = u16::leading_zeros(own);

@@ -7,7 +7,7 @@ use Prim.Native.Nat.{ℕ}
 use lib.ListN.{getD, set}
 use Rattle.theory.specs.Laws.Exact.{exact}
 use Rattle.tables.specs.Buffers.{bit}
-use Rattle.masks.specs.Masks.{withPriority, joinedAt}
+use Rattle.masks.specs.Masks.{joinedAt}
 use Rattle.masks.specs.Joins.{Entry, joinedWhere}
 
 pub number-exact : (buffer : List ℕ) (i r r′ : ℕ) → r ≡ getD buffer i 0 → r′ ≡ getD buffer i 0 → r ≡ r′
@@ -15,9 +15,6 @@ number-exact buffer i r r′ = exact
 
 pub has-exact : (mask p : ℕ) (r r′ : Bool) → r ≡ bit mask p → r′ ≡ bit mask p → r ≡ r′
 has-exact mask p r r′ = exact
-
-pub with-priority-exact : (mask p r r′ : ℕ) → r ≡ withPriority mask p → r′ ≡ withPriority mask p → r ≡ r′
-with-priority-exact mask p r r′ = exact
 
 pub join-exact : (buffer : List ℕ) (at p : ℕ) (l l′ : List ℕ) → l ≡ joinedAt buffer at p → l′ ≡ joinedAt buffer at p → l ≡ l′
 join-exact buffer at p l l′ = exact

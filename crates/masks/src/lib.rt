@@ -25,7 +25,7 @@ pub fn has(mask: u16, p: u8) -> bool
 }
 
 // The mask with the priority p.
-pub fn with_priority(mask: u16, p: u8) -> u16
+fn with_priority(mask: u16, p: u8) -> u16
     ensures { λ r. ⌜ r ≡ withPriority mask p ⌝ }
 {
     if p < 16 {

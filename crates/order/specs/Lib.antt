@@ -1,3 +1,3 @@
--- The tests of a step that come before its tables, and verdicts in order.
+-- The tests of a step that come before its tables.
 pub mod Order
 pub mod Exact

@@ -15,10 +15,6 @@ unfoldable pub exactLengths : ℕ → ℕ → ℕ → ℕ → Bool
 exactLengths periodics triggers waiting events =
     (eqb periodics PERIODIC-TABLE && eqb triggers TRIGGER-TABLE) && (eqb waiting WAITING-NUMBERS && eqb events EVENTS)
 
--- the number of requests, of which those over 32 are not told apart
-unfoldable pub fewer : ℕ → ℕ
-fewer n = cond (leb n REQUESTS) n 33
-
 -- LENGTH, LAST, TOO MANY of requests
 unfoldable pub judgeFirst : Bool → ℕ → ℕ → Verdict
 judgeFirst fit t n = cond fit (cond (leb t LAST-INSTANT) (cond (leb n REQUESTS) Pass (refuse TooMany 0)) (refuse Last 0)) (refuse Length 0)

@@ -1,23 +1,12 @@
 ghost use mathlib.Core.Path.{_≡_};
-ghost use Rattle.answers.specs.Answers.{refuse, andThen};
-ghost use Rattle.order.specs.Order.{exactLengths, fewer, judgeFirst};
+ghost use Rattle.order.specs.Order.{exactLengths, judgeFirst};
 use answers::Name;
+use answers::Refusal;
 use answers::Verdict;
-use answers::refuse;
 use basic::both;
 
-// The number of requests, of which those over 32 are not told apart.
-pub fn fewer(n: usize) -> u16
-    ensures { λ r. ⌜ r ≡ fewer n ⌝ }
-{
-    if n <= 32 {
-        return n as u16;
-    }
-    33
-}
-
-// LENGTH is not given: the tables and the buffers have their exact lengths.
-pub fn lengths_fit(periodics: usize, triggers: usize, waiting: usize, events: usize) -> bool
+// The tables and the buffers have their exact lengths.
+fn lengths_fit(periodics: usize, triggers: usize, waiting: usize, events: usize) -> bool
     ensures { λ r. ⌜ r ≡ exactLengths periodics triggers waiting events ⌝ }
 {
     both(
@@ -26,28 +15,34 @@ pub fn lengths_fit(periodics: usize, triggers: usize, waiting: usize, events: us
     )
 }
 
-// LENGTH, LAST, TOO MANY of requests.
-pub fn judge_first(fit: bool, t: u32, n: u16) -> Verdict
-    ensures { λ r. ⌜ r ≡ judgeFirst fit t n ⌝ }
+// LENGTH, LAST, TOO MANY of requests: by the lengths of what is lent, the instant and the number of requests.
+pub fn judge_first(
+    periodics: usize,
+    triggers: usize,
+    waiting: usize,
+    events: usize,
+    t: u32,
+    n: usize,
+) -> Verdict
+    ensures { λ r. ⌜ r ≡ judgeFirst (exactLengths periodics triggers waiting events) t n ⌝ }
 {
-    if !fit {
-        return refuse(Name::Length, 0);
+    if !lengths_fit(periodics, triggers, waiting, events) {
+        return Verdict::Refuse(Refusal {
+            name: Name::Length,
+            place: 0,
+        });
     }
     if 16777215 < t {
-        return refuse(Name::Last, 0);
+        return Verdict::Refuse(Refusal {
+            name: Name::Last,
+            place: 0,
+        });
     }
     if 32 < n {
-        return refuse(Name::TooMany, 0);
+        return Verdict::Refuse(Refusal {
+            name: Name::TooMany,
+            place: 0,
+        });
     }
     Verdict::Pass
-}
-
-// A later test is asked only where those before it pass.
-pub fn and_then(first: Verdict, later: Verdict) -> Verdict
-    ensures { λ r. ⌜ r ≡ andThen first later ⌝ }
-{
-    match first {
-        Verdict::Pass => later,
-        Verdict::Refuse(r) => Verdict::Refuse(r),
-    }
 }

@@ -1,4 +1,4 @@
--- The contracts of this crate's public functions leave one possible answer: any two that they allow are equal.
+-- The contract of this crate's public function leaves one possible content of the buffer: any two that it allows are equal.
 -- Assumes nothing.
 use mathlib.Core.Path.{_≡_}
 use mathlib.Core.List.{List}
@@ -6,13 +6,7 @@ use Prim.Native.Nat.{ℕ}
 use lib.ListN.{length}
 use lib.Seq.{paste}
 use Rattle.theory.specs.Laws.Exact.{exact}
-use Rattle.prints.specs.Print.{lineOf, refusalFrame, minuteFrame}
-
-pub minute-frame-exact : (instant roles count : ℕ) (r r′ : List ℕ) → r ≡ minuteFrame instant roles count → r′ ≡ minuteFrame instant roles count → r ≡ r′
-minute-frame-exact instant roles count r r′ = exact
-
-pub refusal-frame-exact : (number place : ℕ) (r r′ : List ℕ) → r ≡ refusalFrame number place → r′ ≡ refusalFrame number place → r ≡ r′
-refusal-frame-exact number place r r′ = exact
+use Rattle.prints.specs.Print.{lineOf}
 
 pub put-line-exact : (out frame : List ℕ) (at : ℕ) (o o′ : List ℕ) → o ≡ paste out at (lineOf frame) (length (lineOf frame)) → o′ ≡ paste out at (lineOf frame) (length (lineOf frame)) → o ≡ o′
 put-line-exact out frame at o o′ = exact

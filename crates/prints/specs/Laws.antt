@@ -1,5 +1,4 @@
--- What is proved of what is printed: its bytes, how long it is, how it comes into a buffer, and that it reads back.
-pub mod Made
+-- What is proved of what is printed: how long it is, how it comes into a buffer, and that it reads back.
 pub mod Lengths
 pub mod Pasted
 pub mod Reads

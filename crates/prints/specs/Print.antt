@@ -1,8 +1,8 @@
--- What is printed: frames as lines of upper-case hexadecimal, two digits a byte, numbers high byte first, the last byte making the sum of all a multiple of 256 (document 01, 'The sheet').
+-- What is printed: frames as lines of upper-case hexadecimal, two digits a byte, the last byte making the sum of all a multiple of 256 (document 01, 'The sheet').
 -- Assumes nothing.
 use mathlib.Core.Bool.{cond}
 use mathlib.Core.List.{List, [], _∷_, _++_}
-use Prim.Native.Nat.{ℕ, zero, suc, _+_, _-_, _/_, _%_, _^_}
+use Prim.Native.Nat.{ℕ, _+_, _-_, _/_, _%_}
 use lib.Dec.{ltb}
 use Rattle.text.specs.Lines.{LINE-END}
 use Rattle.frames.specs.Frame.{sum}
@@ -23,16 +23,3 @@ checkOf f = (256 - sum f % 256) % 256
 -- a frame, and its check, as a line
 abbrev pub lineOf : List ℕ → List ℕ
 lineOf f = hexOf (f ++ (checkOf f ∷ [])) ++ (LINE-END ∷ [])
-
--- a number in k bytes, high byte first
-abbrev pub bytesIn : ℕ → ℕ → List ℕ
-bytesIn zero n = []
-bytesIn (suc k) n = (n / 256 ^ k) % 256 ∷ bytesIn k n
-
--- a refusal: E0, number 1, place 4
-abbrev pub refusalFrame : ℕ → ℕ → List ℕ
-refusalFrame number place = 0xe0 ∷ bytesIn 1 number ++ bytesIn 4 place
-
--- a minute: 50, instant 4, enabled roles after it 8, count 1
-abbrev pub minuteFrame : ℕ → ℕ → ℕ → List ℕ
-minuteFrame instant roles count = 0x50 ∷ bytesIn 4 instant ++ (bytesIn 8 roles ++ bytesIn 1 count)

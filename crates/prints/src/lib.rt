@@ -1,65 +1,11 @@
 ghost use mathlib.Core.Path.{_≡_};
 ghost use mathlib.Core.List.{[], _∷_};
-ghost use Prim.Native.Nat.{_+_, _*_, _/_, _%_, _≤_, _<_};
+ghost use Prim.Native.Nat.{_+_, _*_, _%_, _≤_, _<_};
 ghost use lib.ListN.{length};
 ghost use lib.Seq.{paste};
 ghost use Rattle.frames.specs.Frame.{sum};
-ghost use Rattle.prints.specs.Print.{digitOf, hexOf, checkOf, lineOf, refusalFrame, minuteFrame};
-use basic::long;
+ghost use Rattle.prints.specs.Print.{digitOf, hexOf, checkOf, lineOf};
 use basic::wide;
-
-// The low byte of a number.
-fn low(x: u64) -> u8
-    ensures { λ r. ⌜ r ≡ x % 256 ⌝ }
-{
-    (x % 256) as u8
-}
-
-// The byte of a number that has this weight.
-fn byte_of(n: u64, weight: u64) -> u8
-    requires { ⌜ 0 < weight ⌝ }
-    ensures { λ r. ⌜ r ≡ (n / weight) % 256 ⌝ }
-{
-    low(n / weight)
-}
-
-// The frame of a minute: the instant, the enabled roles after it, and the count.
-pub fn minute_frame(instant: u32, roles: u64, count: u8) -> [u8; 14]
-    ensures { λ r. ⌜ r ≡ minuteFrame instant roles count ⌝ }
-{
-    let t = long(instant);
-    [
-        0x50,
-        byte_of(t, 0x1000000),
-        byte_of(t, 0x10000),
-        byte_of(t, 0x100),
-        byte_of(t, 1),
-        byte_of(roles, 0x100000000000000),
-        byte_of(roles, 0x1000000000000),
-        byte_of(roles, 0x10000000000),
-        byte_of(roles, 0x100000000),
-        byte_of(roles, 0x1000000),
-        byte_of(roles, 0x10000),
-        byte_of(roles, 0x100),
-        byte_of(roles, 1),
-        count,
-    ]
-}
-
-// The frame of a refusal: its number and its place.
-pub fn refusal_frame(number: u8, place: u32) -> [u8; 6]
-    ensures { λ r. ⌜ r ≡ refusalFrame number place ⌝ }
-{
-    let p = long(place);
-    [
-        0xe0,
-        number,
-        byte_of(p, 0x1000000),
-        byte_of(p, 0x10000),
-        byte_of(p, 0x100),
-        byte_of(p, 1),
-    ]
-}
 
 // The character of a digit.
 fn glyph(d: u8) -> u8
@@ -90,7 +36,7 @@ fn check_of(frame: &[u8]) -> u8
     ensures { λ r. ⌜ r ≡ checkOf (now (frame .entry)) ⌝ }
 {
     let t = total(frame);
-    low(long(256 - t))
+    ((256 - t) % 256) as u8
 }
 
 // A byte's two digits over the buffer's bytes from `at` on.

@@ -1,9 +1,9 @@
--- Laws of requests: what is asked for, what a pass says of each, and the search for the first that is outside its limits.
+-- Laws of requests: what is asked for, what a pass says of each, and the search for the first that is outside its limits. (`Flat` has those of flat numbers.)
 -- Assumes nothing.
-use mathlib.Core.Path.{_≡_, refl, sym, ap, _∙_}
+use mathlib.Core.Path.{_≡_, refl, sym, ap}
 use mathlib.Core.Logic.{⊎-elim}
-use mathlib.Core.Bool.{Bool, true, false, not, _&&_}
-use Prim.Native.Nat.{ℕ, _+_, _≤_, _<_}
+use mathlib.Core.Bool.{true, false, not, _&&_}
+use Prim.Native.Nat.{ℕ, _+_, _<_}
 use native.Mathlib.Omega.{arith}
 use lib.Dec.{ltb, eqb}
 use borrow.Author.Tests.{lt-ltb, le-ltb, ltb-false, eqb-true, eq-eqb, not-false}
@@ -22,6 +22,7 @@ use Rattle.masks.specs.Joins.{Entry}
 use Rattle.waiting.specs.Waiting.{placeOf}
 use Rattle.answers.specs.Answers.{refuse}
 use Rattle.requests.specs.Requests.{fits, outside, firstOutside, judgeRequests, givenEntry, waitEntry}
+pub mod Flat
 
 -- ---- what is asked for
 

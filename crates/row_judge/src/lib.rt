@@ -6,12 +6,11 @@ ghost use Rattle.theory.specs.Numbers.{ROLES, PERIODIC-ROWS, TRIGGER-ROWS};
 ghost use Rattle.theory.specs.Below.{firstBelow};
 ghost use Rattle.theory.specs.Sheet.{periodicFits};
 ghost use Rattle.tables.specs.Layout.{periodicAt, sheetOf};
-ghost use Rattle.answers.specs.Answers.{refuse};
 ghost use Rattle.row_judge.specs.Judge.{firstUnfit, judgeRows};
 ghost use Rattle.row_judge.specs.Parts.{unfitPeriodic, unfitTrigger, judgeFields};
 use answers::Name;
+use answers::Refusal;
 use answers::Verdict;
-use answers::refuse;
 use basic::both;
 
 // ---- FIELD of the rows
@@ -78,7 +77,10 @@ fn fields_judged(roles: u8, p: u16, t: u16, periodics: &[u8], triggers: &[u8]) -
     let first = first_unfit(roles, p, t, periodics, triggers);
     let rows = row_place(p, t);
     if first < rows {
-        return refuse(Name::Field, first);
+        return Verdict::Refuse(Refusal {
+            name: Name::Field,
+            place: first,
+        });
     }
     Verdict::Pass
 }
@@ -109,7 +111,13 @@ pub fn rows_judged(roles: u8, p: u16, t: u16, periodics: &[u8], triggers: &[u8])
         if fit {
             return fields_judged(roles, p, t, periodics, triggers);
         }
-        return refuse(Name::Field, 0);
+        return Verdict::Refuse(Refusal {
+            name: Name::Field,
+            place: 0,
+        });
     }
-    refuse(Name::TooMany, 0)
+    Verdict::Refuse(Refusal {
+        name: Name::TooMany,
+        place: 0,
+    })
 }

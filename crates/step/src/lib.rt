@@ -1,10 +1,22 @@
+ghost use mathlib.Core.Path.{_≡_};
 ghost use Prim.Native.Nat.{_≤_};
 ghost use Rattle.theory.specs.Numbers.{LAST-INSTANT};
+ghost use Rattle.answers.specs.Answers.{andThen};
 ghost use Rattle.tables.specs.Asked.{flat};
 ghost use Rattle.row_judge.specs.Judge.{rules};
 ghost use Rattle.step.specs.Outcome.{lent, Outcome};
 ghost use Rattle.step.specs.Parts.{Sized, Inner};
 use answers::Verdict;
+
+// A later test is asked only where those before it pass.
+fn and_then(first: Verdict, later: Verdict) -> Verdict
+    ensures { λ r. ⌜ r ≡ andThen first later ⌝ }
+{
+    match first {
+        Verdict::Pass => later,
+        Verdict::Refuse(r) => Verdict::Refuse(r),
+    }
+}
 
 // A step, once LENGTH, LAST and TOO MANY of requests are not given: the tables and the requests are judged, and then it acts.
 fn step_within(
@@ -27,7 +39,7 @@ fn step_within(
     let levels = judged.levels;
     let tables = judged.verdict;
     let requests = requests::judge_requests(roles, asked, m);
-    let verdict = order::and_then(tables, requests);
+    let verdict = and_then(tables, requests);
     match verdict {
         Verdict::Pass => {
             minute::act(
@@ -65,9 +77,14 @@ pub fn step(
 ) -> Verdict
     ensures { λ r. ⌜ Outcome (rules roles «periodic_count» «trigger_count» (now (periodics .entry)) (now (triggers .entry))) (flat asked n) (lent (now (instant .entry)) (now (enabled .entry)) (now (waiting .entry)) (now (events .entry))) r (lent (now (instant .exit)) (now (enabled .exit)) (now (waiting .exit)) (now (events .exit))) ⌝ }
 {
-    let fit = order::lengths_fit(periodics.len(), triggers.len(), waiting.len(), events.len());
-    let m = order::fewer(n);
-    let first = order::judge_first(fit, *instant, m);
+    let first = order::judge_first(
+        periodics.len(),
+        triggers.len(),
+        waiting.len(),
+        events.len(),
+        *instant,
+        n,
+    );
     match first {
         Verdict::Pass => step_within(
             roles,
@@ -76,7 +93,7 @@ pub fn step(
             periodics,
             triggers,
             &asked,
-            m,
+            n as u16,
             instant,
             enabled,
             waiting,

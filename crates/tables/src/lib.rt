@@ -46,6 +46,17 @@ pub fn byte(table: &[u8], i: usize) -> u8
     0
 }
 
+// Which byte of a trigger's row each field of one byte is (docs/TABLES.md).
+pub const EVENT_COUNT: u8 = 0;
+
+pub const CONDITION_COUNT: u8 = 1;
+
+pub const HEAD: u8 = 10;
+
+pub const PRIORITY: u8 = 11;
+
+pub const DELAY: u8 = 12;
+
 // Byte k of row i of a trigger table.
 pub fn trigger_byte(table: &[u8], i: u16, k: u8) -> u8
     ensures { λ r. ⌜ r ≡ byteAt (now (table .entry)) (TRIGGER-BYTES * i + k) ⌝ }

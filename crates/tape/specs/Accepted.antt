@@ -22,8 +22,9 @@ use Rattle.kinds.specs.Kinds.{kind}
 use Rattle.requests.specs.Requests.{fits}
 use Rattle.walks.specs.Walks.{Going, goes, refused, walks}
 use Rattle.walks.specs.Laws.{no-goes, walks-first}
+use Rattle.tape_frames.specs.Frame.{ASK, TAPE-END, instantOf, askedIn}
 use Rattle.tape_tests.specs.declared.Heard.{Heard}
-use Rattle.tape_tests.specs.Tape.{ASK, TAPE-END, LONGEST-DAY, instantOf, askedIn, tapeSize, ofTape, inTime, askFits}
+use Rattle.tape_tests.specs.Tape.{LONGEST-DAY, tapeSize, ofTape, inTime, askFits}
 use Rattle.tape.specs.Tape.{rowWith, heardAfter, tapeEnds, tapeReader, lineAsks, asksIn}
 use Rattle.tape.specs.Laws.{Passed, took-line, room-says}
 

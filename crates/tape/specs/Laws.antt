@@ -2,23 +2,24 @@
 -- Assumes nothing.
 use mathlib.Core.Path.{_≡_, refl, sym, ap, _∙_}
 use mathlib.Core.Logic.{⊎-elim}
-use mathlib.Core.Bool.{true, false, cond}
+use mathlib.Core.Bool.{true, false}
 use mathlib.Core.List.{List}
 use Prim.Native.Nat.{ℕ, _+_, _<_}
-use lib.Dec.{eqb, ltb}
+use lib.Dec.{eqb}
 use borrow.Author.Tests.{eq-eqb, ltb-true}
 use Rattle.theory.specs.Numbers.{REQUESTS}
 use Rattle.theory.specs.Laws.Tests.{test}
 use Rattle.answers.specs.declared.Refusal.{Refusal}
-use Rattle.answers.specs.declared.Verdict.the-variants.{Pass, Refuse}
+use Rattle.answers.specs.declared.Verdict.the-variants.{Pass}
 use Rattle.answers.specs.Laws.{cond-pass}
 use Rattle.text.specs.Framed.{framed}
 use Rattle.frames.specs.Frame.{bytesOf, checked}
 use Rattle.walks.specs.Walks.{Going, goes, refused}
 use Rattle.walks.specs.Laws.{verdict-goes}
 use Rattle.kinds.specs.Kinds.{kind}
+use Rattle.tape_frames.specs.Frame.{ASK, instantOf}
 use Rattle.tape_tests.specs.declared.Heard.{Heard}
-use Rattle.tape_tests.specs.Tape.{ASK, instantOf, ofTape, roomFor, inTime, askFits, inOrder, judgeFrame, judgeTape}
+use Rattle.tape_tests.specs.Tape.{ofTape, roomFor, inTime, askFits, inOrder, judgeFrame, judgeTape}
 use Rattle.tape.specs.declared.Tape.{Tape}
 use Rattle.tape.specs.declared.Tape.the-variants.{Goes, Refused}
 use Rattle.tape.specs.Tape.{heardAfter, tapeStep}

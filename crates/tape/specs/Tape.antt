@@ -11,8 +11,9 @@ use Rattle.text.specs.Lines.{Lines, none, endless, line, lines}
 use Rattle.frames.specs.Frame.{bytesOf}
 use Rattle.walks.specs.Walks.{Going, goes, refused, byVerdict, Reader, walks}
 use Rattle.kinds.specs.Kinds.{kind}
+use Rattle.tape_frames.specs.Frame.{ASK, instantOf, askedIn}
 use Rattle.tape_tests.specs.declared.Heard.{Heard}
-use Rattle.tape_tests.specs.Tape.{ASK, instantOf, askedIn, judgeTape}
+use Rattle.tape_tests.specs.Tape.{judgeTape}
 
 -- ---- the lines
 

@@ -10,8 +10,8 @@ use answers::Name;
 use answers::Refusal;
 use answers::Verdict;
 use frames::byte_at;
+use tape_frames::instant_of;
 use tape_tests::Heard;
-use tape_tests::instant_of;
 
 // What came of a line, or of all of them.
 pub enum Tape {

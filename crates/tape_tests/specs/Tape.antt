@@ -1,4 +1,4 @@
--- One line of a tape: what its frame says, and its tests in their order (document 01, 'The day program').
+-- The tests of a line of a tape, in their order (document 01, 'The day program').
 -- Assumes nothing.
 use mathlib.Core.Bool.{Bool, true, not, cond, _&&_, _||_}
 use mathlib.Core.List.{List}
@@ -12,18 +12,10 @@ use Rattle.answers.specs.declared.Verdict.the-variants.{Pass}
 use Rattle.answers.specs.Answers.{refuse}
 use Rattle.text.specs.Framed.{framed}
 use Rattle.frames.specs.Frame.{bytesOf, checked}
-use Rattle.tables.specs.Layout.{byteAt, four}
-use Rattle.tables.specs.Asked as lent
 use Rattle.kinds.specs.Kinds.{kind}
 use Rattle.requests.specs.Requests.{fits}
+use Rattle.tape_frames.specs.Frame.{ASK, TAPE-END, instantOf, askedIn}
 use Rattle.tape_tests.specs.declared.Heard.{Heard}
-
--- 40 request, F1 end
-abbrev pub ASK : ℕ
-ASK = 0x40
-
-abbrev pub TAPE-END : ℕ
-TAPE-END = 0xf1
 
 -- the last instant of a day is at most this
 abbrev pub LONGEST-DAY : ℕ
@@ -32,14 +24,6 @@ LONGEST-DAY = 10080
 -- how many bytes a frame of this kind has, the kind and the check among them; an unknown kind has no right count
 unfoldable pub tapeSize : ℕ → ℕ
 tapeSize k = cond (eqb k ASK) 9 (cond (eqb k TAPE-END) 6 0)
-
--- both kinds have an instant of 4 bytes: the request's, or the last one
-abbrev pub instantOf : List ℕ → ℕ
-instantOf f = four f 1
-
--- then event 1, priority 1, delay 1
-abbrev pub askedIn : List ℕ → lent.Request
-askedIn f = record { event = byteAt f 5; priority = byteAt f 6; delay = byteAt f 7 }
 
 -- KIND is not given: a known kind, its byte count, and no line after the end
 unfoldable pub ofTape : Heard → List ℕ → Bool

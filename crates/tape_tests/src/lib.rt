@@ -1,16 +1,14 @@
 ghost use mathlib.Core.Path.{_≡_};
 ghost use Rattle.frames.specs.Frame.{bytesOf};
-ghost use Rattle.kinds.specs.Kinds.{kind};
-ghost use Rattle.requests.specs.Asked.{requestOf};
-ghost use Rattle.tape_tests.specs.Tape.{tapeSize, instantOf, askedIn, ofTape, roomFor, inTime, askFits, inOrder, judgeFrame, judgeTape};
+ghost use Rattle.tape_tests.specs.Tape.{tapeSize, ofTape, roomFor, inTime, askFits, inOrder, judgeFrame, judgeTape};
 use answers::Name;
+use answers::Refusal;
 use answers::Verdict;
-use answers::refuse;
 use basic::both;
 use basic::either;
-use basic::wide;
 use frames::byte_at;
-use requests::Request;
+use tape_frames::asked_in;
+use tape_frames::instant_of;
 
 // What was read of a tape so far: how many lines of the whole input, whether the end was there, the instant of the last request and how many requests in a row are of it,
 // and the last instant that the end said. (Before the first request the instant is 0, and none is of it.)
@@ -20,26 +18,6 @@ pub struct Heard {
     pub instant: u32,
     pub row: u8,
     pub last: u32,
-}
-
-// The instant that a line's frame says: a request's, or the last one.
-pub fn instant_of(line: &[u8]) -> u32
-    ensures { λ r. ⌜ r ≡ instantOf (bytesOf (now (line .entry))) ⌝ }
-{
-    let high = 256 * wide(byte_at(line, 1)) + wide(byte_at(line, 2));
-    let low = 256 * wide(byte_at(line, 3)) + wide(byte_at(line, 4));
-    65536 * high + low
-}
-
-// The request that a line's frame says.
-pub fn asked_in(line: &[u8]) -> Request
-    ensures { λ r. ⌜ requestOf r ≡ askedIn (bytesOf (now (line .entry))) ⌝ }
-{
-    Request {
-        event: byte_at(line, 5),
-        priority: byte_at(line, 6),
-        delay: byte_at(line, 7),
-    }
 }
 
 // How many bytes a frame of kind k has.
@@ -105,13 +83,25 @@ fn in_order(place: u32, kind: bool, room: bool, field: bool, request: bool) -> V
                 if request {
                     return Verdict::Pass;
                 }
-                return refuse(Name::Request, place);
+                return Verdict::Refuse(Refusal {
+                    name: Name::Request,
+                    place: place,
+                });
             }
-            return refuse(Name::Field, place);
+            return Verdict::Refuse(Refusal {
+                name: Name::Field,
+                place: place,
+            });
         }
-        return refuse(Name::TooMany, place);
+        return Verdict::Refuse(Refusal {
+            name: Name::TooMany,
+            place: place,
+        });
     }
-    refuse(Name::Kind, place)
+    Verdict::Refuse(Refusal {
+        name: Name::Kind,
+        place: place,
+    })
 }
 
 // KIND, TOO MANY, FIELD, REQUEST of a line's frame.
@@ -135,7 +125,13 @@ pub fn tape_judged(line: &[u8], roles: u8, s: Heard, place: u32) -> Verdict
         if frames::is_checked(line) {
             return frame_judged(line, roles, s, place);
         }
-        return refuse(Name::Check, place);
+        return Verdict::Refuse(Refusal {
+            name: Name::Check,
+            place: place,
+        });
     }
-    refuse(Name::Frame, place)
+    Verdict::Refuse(Refusal {
+        name: Name::Frame,
+        place: place,
+    })
 }

@@ -7,10 +7,6 @@ use Rattle.theory.specs.Sheet.{Trigger}
 use Rattle.theory.specs.Laws.Exact.{exact}
 use Rattle.tables.specs.Layout.{triggerAt}
 
--- `event_count`, `condition_count`, `head`, `priority` and `delay`, each with its field
-pub field-exact : (field : Trigger → ℕ) (table : List ℕ) (i r r′ : ℕ) → r ≡ field (triggerAt table i) → r′ ≡ field (triggerAt table i) → r ≡ r′
-field-exact field table i r r′ = exact
-
 -- `event` and `condition`, each with its field
 pub place-exact : (field : Trigger → ℕ → ℕ) (table : List ℕ) (i j r r′ : ℕ) → r ≡ field (triggerAt table i) j → r′ ≡ field (triggerAt table i) j → r ≡ r′
 place-exact field table i j r r′ = exact

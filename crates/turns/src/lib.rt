@@ -13,8 +13,9 @@ use bodies::met;
 use masks::has;
 use masks::join;
 use masks::number;
-use triggers::head;
-use triggers::priority;
+use tables::HEAD;
+use tables::PRIORITY;
+use tables::trigger_byte;
 
 // p:e joins the events; whether it was not there. What is no prioritized event joins nothing.
 fn put(events: &mut [u16], e: u8, p: u8) -> bool
@@ -43,8 +44,8 @@ fn turn(events: &mut [u16], triggers: &[u8], i: u16) -> bool
     if !met(events, triggers, i) {
         return false;
     }
-    let e = head(triggers, i);
-    let p = priority(triggers, i);
+    let e = trigger_byte(triggers, i, HEAD);
+    let p = trigger_byte(triggers, i, PRIORITY);
     put(events, e, p)
 }
 

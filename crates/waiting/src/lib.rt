@@ -13,6 +13,10 @@ use basic::wide;
 use masks::join_where;
 use masks::number;
 use masks::store;
+use tables::DELAY;
+use tables::HEAD;
+use tables::PRIORITY;
+use tables::trigger_byte;
 
 // Where event e stands in the row of d instants after t.
 pub fn place(t: u32, d: u8, e: u8) -> usize
@@ -45,7 +49,7 @@ pub fn clear_row(waiting: &mut [u16], t: u32)
 fn comes_to_wait(events: &[u16], triggers: &[u8], i: u16, roles: u64) -> bool
     ensures { λ r. ⌜ r ≡ (ltb 0 (triggerAt (now (triggers .entry)) i .delay) && (allows (rolesOf roles) (triggerAt (now (triggers .entry)) i) && met (eventsOf (now (events .entry))) (eventsOf (now (events .entry))) (triggerAt (now (triggers .entry)) i))) ⌝ }
 {
-    if triggers::delay(triggers, i) == 0 {
+    if trigger_byte(triggers, i, DELAY) == 0 {
         return false;
     }
     if !bodies::allows(triggers, i, roles) {
@@ -68,8 +72,10 @@ pub fn wait_triggers(
     let mut i: u16 = 0;
     while i < n {
         let on = comes_to_wait(events, triggers, i, roles);
-        let at = place(t, triggers::delay(triggers, i), triggers::head(triggers, i));
-        join_where(waiting, on, at, triggers::priority(triggers, i));
+        let delay = trigger_byte(triggers, i, DELAY);
+        let head = trigger_byte(triggers, i, HEAD);
+        let at = place(t, delay, head);
+        join_where(waiting, on, at, trigger_byte(triggers, i, PRIORITY));
         i += 1;
     }
 }

@@ -5,7 +5,7 @@ use Prim.Native.Nat.{ℕ, _+_, _*_, _<_}
 use lib.ListN.{length, set}
 use lib.Seq.{lt-length-set}
 use Rattle.tables.specs.Asked.{Request}
-use Rattle.flats.specs.Flat.{putAt}
+use Rattle.requests.specs.Flat.{putAt}
 use borrow.Author.Needs.{needs}
 use Rattle.batches.proofs.put.Statement.{statement}
 use Rattle.batches.proofs.put.Tie as tie

@@ -8,7 +8,7 @@ use borrow.Author.Tests.{not-true, not-false}
 use Rattle.theory.specs.Numbers.{REQUESTS}
 use Rattle.text.specs.Lines.{lines}
 use Rattle.text.specs.Laws.Lines.{end-le}
-use Rattle.flats.specs.Flat.{FLAT-NUMBERS}
+use Rattle.requests.specs.Flat.{FLAT-NUMBERS}
 use Rattle.batches.specs.Batch.{takes, rest, noneYet}
 use Rattle.batches.specs.Laws.{batchOf, Taking, takes-none, takes-endless, takes-other, takes-more, room}
 use borrow.Author.Needs.{needs}

@@ -9,6 +9,7 @@ use Rattle.theory.specs.Events.{holds}
 use Rattle.theory.specs.Instant.{allows}
 use Rattle.theory.specs.Laws.Below.{all-none, all-next, all-end, all-fails}
 use Rattle.tables.specs.Layout.{triggerAt}
+use Rattle.tables.specs.Laws.{condition-count-byte}
 use Rattle.tables.specs.Buffers.{rolesOf}
 use borrow.Author.Needs.{needs}
 use native.Mathlib.Omega.{arith}
@@ -21,8 +22,8 @@ Inv-loop triggers i roles n j₀ j = (j ≤ n) × (allBelow j (λ k. holds (role
 abbrev μ-loop : tie.MeasureT-loop
 μ-loop triggers i roles n j₀ j = n - j
 
-condition-count-requires : tie.Need-condition-count-requires Inv-loop μ-loop
-condition-count-requires c κs = search needs
+trigger-byte-requires : tie.Need-trigger-byte-requires Inv-loop μ-loop
+trigger-byte-requires c κs = search needs
 
 loop-holds : tie.Need-loop-holds Inv-loop μ-loop
 loop-holds c = (search needs, all-none _)
@@ -38,7 +39,9 @@ unfolding allows
 returns c =
     let s = c .before in
     let d = s .before .before .before in
-    sym (all-fails _ _ (d .loop .j) (omega (arith, d .before .condition-count .ensures)) (sym (ap (holds _) (s .before .condition .ensures)) ∙ sym (s .holds .ensures) ∙ not-true _ (c .if1 .taken)))
+    let a = d .before .before .before .args in
+    let n = d .before .trigger-byte .ensures ∙ condition-count-byte (a .triggers .now) (a .i) in
+    sym (all-fails _ _ (d .loop .j) (omega (arith, n)) (sym (ap (holds _) (s .before .condition .ensures)) ∙ sym (s .holds .ensures) ∙ not-true _ (c .if1 .taken)))
 
 add-j : tie.Need-add-j Inv-loop μ-loop
 add-j c = search needs
@@ -58,7 +61,8 @@ returns-2 : tie.Need-returns-2 Inv-loop μ-loop
 unfolding allows
 returns-2 c =
     let d = c .before in
-    let n = d .before .condition-count .ensures in
+    let a = d .before .before .before .args in
+    let n = d .before .trigger-byte .ensures ∙ condition-count-byte (a .triggers .now) (a .i) in
     sym (all-end _ (d .loop .j) _ (omega (arith, n)) (omega (arith, n)) (d .loop .inv .1))
 
 pub allows-spec : {M : Type 1} → statement M
@@ -67,7 +71,7 @@ allows-spec =
     (tie.spec
     Inv-loop
     μ-loop
-    condition-count-requires
+    trigger-byte-requires
     loop-holds
     condition-requires
     holds-requires

@@ -20,9 +20,9 @@ use Rattle.frames.specs.Frame.{bytesOf}
 use Rattle.tables.specs.Asked.{Request, requestAt, flat, asks}
 use Rattle.requests.specs.Requests.{fits}
 use Rattle.requests.specs.Laws.{AllFit}
-use Rattle.flats.specs.Flat.{FLAT-NUMBERS, putAt}
-use Rattle.flats.specs.Laws.{put-before, put-here, put-size}
-use Rattle.tape_tests.specs.Tape.{askedIn}
+use Rattle.requests.specs.Flat.{FLAT-NUMBERS, putAt}
+use Rattle.requests.specs.Laws.Flat.{put-before, put-here, put-size}
+use Rattle.tape_frames.specs.Frame.{askedIn}
 use Rattle.tape.specs.Tape.{lineAsks, asksIn}
 use Rattle.tape.specs.Accepted.{isAsk, at, more, Fine, line-asks}
 use Rattle.batches.specs.declared.Batch.{Batch}

@@ -2,7 +2,7 @@
 -- Assumes nothing.
 use mathlib.Core.Path.{ap, _∙_}
 use Prim.Native.Nat.{ℕ}
-use Rattle.prints.specs.Print.{refusalFrame}
+use Rattle.printed_frames.specs.Frames.{refusalFrame}
 use Rattle.days.specs.Laws.Front.{front-refusal}
 use borrow.Author.Needs.{needs}
 use Rattle.days.proofs.print_refusal.Statement.{statement}

@@ -1,12 +1,12 @@
 -- `days::run` meets its contract. The loop's invariant is `Standing`: before each instant the state is that of any run, the tape stands at its requests, and the lines so far are written.
 -- The measure is how many instants are left.
 -- Assumes nothing.
-use mathlib.Core.Path.{refl, ap}
+use mathlib.Core.Path.{refl}
 use Prim.Native.Nat.{_+_, _-_, _≤_}
-use lib.ListN.{length, replicate}
+use lib.ListN.{replicate}
 use Rattle.theory.specs.Numbers.{EVENTS}
 use Rattle.step.specs.Outcome.{lent}
-use Rattle.days.specs.Laws.Turn.{Standing, standing-start, standing-next, standing-end}
+use Rattle.day_lines.specs.Laws.Turn.{Standing, standing-start, standing-next, standing-end}
 use borrow.Author.Needs.{needs}
 use Rattle.days.proofs.run.Statement.{statement}
 use Rattle.days.proofs.run.Tie as tie

@@ -19,15 +19,18 @@ use Rattle.text.specs.Lines.{lines}
 use Rattle.tables.specs.Layout.{sheetOf}
 use Rattle.row_judge.specs.Judge.{sheetIn}
 use Rattle.judge.specs.Laws.{judge-passes}
-use Rattle.prints.specs.Print.{lineOf, refusalFrame}
-use Rattle.prints.specs.Laws.Lengths.{length-line, length-refusal}
+use Rattle.prints.specs.Print.{lineOf}
+use Rattle.prints.specs.Laws.Lengths.{length-line}
+use Rattle.printed_frames.specs.Frames.{refusalFrame}
+use Rattle.printed_frames.specs.Laws.Lengths.{length-refusal}
 use Rattle.tape.specs.Tape.{asksIn}
 use Rattle.tape.specs.Accepted.{fine-within}
 use Rattle.openings.specs.declared.Plan.{Plan}
 use Rattle.openings.specs.Opening.{refuses}
-use Rattle.days.specs.Day.{minuteLines, Front}
-use Rattle.days.specs.Run.{LINE, rulesOf, Accepted, RunsTo, openingOf}
-use Rattle.days.specs.Laws.Lines.{lines-size, lines-front, lines-same}
+use Rattle.day_lines.specs.Lines.{minuteLines, LINE}
+use Rattle.day_lines.specs.Run.{rulesOf, Accepted, RunsTo, openingOf}
+use Rattle.day_lines.specs.Laws.Lines.{lines-size, lines-front, lines-same}
+use Rattle.days.specs.Day.{Front}
 
 -- the lines of any run are those of the canonical execution model
 pub front-lines : (plan : Plan) (p t tape out out′ : List ℕ) → Accepted plan p t tape out → RunsTo plan p t tape out out′ → (n : ℕ) → n ≡ LINE * (plan .last + 1)

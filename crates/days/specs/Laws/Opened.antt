@@ -30,11 +30,12 @@ use Rattle.tape.specs.Accepted.{Fine, accepted-fine, accepted-last}
 use Rattle.openings.specs.declared.Plan.{Plan}
 use Rattle.openings.specs.declared.Opened.{Opened}
 use Rattle.openings.specs.declared.Opened.the-variants.{Opens, Refuses}
-use Rattle.openings.specs.Opening.{INPUT-BYTES, Opening, opens, refuses, afterTape, afterSheet, sheetRead, opening}
+use Rattle.openings.specs.Opening.{INPUT-BYTES, Opening, refuses, afterTape, afterSheet, sheetRead, opening}
 use Rattle.openings.specs.Planned.{Planned, opened, byHeard, byTape, bySheet, byReading, planned}
+use Rattle.day_lines.specs.Lines.{OUTPUT-BYTES}
+use Rattle.day_lines.specs.Run.{rulesOf, Accepted, openingOf}
 use Rattle.days.specs.declared.Printed.{Printed}
-use Rattle.days.specs.Day.{OUTPUT-BYTES, Front}
-use Rattle.days.specs.Run.{rulesOf, Accepted, openingOf}
+use Rattle.days.specs.Day.{Front}
 
 -- what an input that opens has
 pub record Opens-to (input : List ℕ) (plan : Plan) (p t : List ℕ) : Type 0 where

@@ -4,6 +4,7 @@ use mathlib.Core.Path.{sym, ap, _∙_}
 use Prim.Native.Nat.{_-_, _≤_}
 use borrow.Author.Tests.{not-true, not-false}
 use Rattle.tables.specs.Layout.{triggerAt}
+use Rattle.tables.specs.Laws.{event-count-byte, head-byte}
 use Rattle.rows.specs.Rows.{Become}
 use Rattle.edges.specs.Drawing.{tailOf, addedFrom}
 use Rattle.edges.specs.Laws.{bodyEdges, body-none, body-next, body-end, body-skip}
@@ -26,11 +27,11 @@ returns c =
     let a = c .before .before .before .args in
     λ n E h. body-skip (tailOf (a .negative)) _ n _ (a .i) E _ (sym (c .before .counts-at .ensures n) ∙ not-true _ (c .if1 .taken)) h
 
-head-requires : tie.Need-head-requires Inv-loop μ-loop
-head-requires c κs = search needs
+trigger-byte-requires : tie.Need-trigger-byte-requires Inv-loop μ-loop
+trigger-byte-requires c κs = search needs
 
-event-count-requires : tie.Need-event-count-requires Inv-loop μ-loop
-event-count-requires c κs = search needs
+trigger-byte-requires-2 : tie.Need-trigger-byte-requires-2 Inv-loop μ-loop
+trigger-byte-requires-2 c κs = search needs
 
 loop-holds : tie.Need-loop-holds Inv-loop μ-loop
 loop-holds c =
@@ -68,7 +69,7 @@ loop-again c =
       λ E h.
           body-next from _ g E _ j _ _ _
           (n .before .tail .ensures ∙ ap from (n .before .before .event .ensures))
-          (s .head .ensures)
+          (s .trigger-byte .ensures ∙ head-byte _ _)
           (n .reaches .ensures)
           (c .link .ensures (addedFrom _ (bodyEdges from g j) E) (d .loop .inv .1 E h)),
     )
@@ -78,10 +79,11 @@ returns-2 c =
     let d = c .before in
     let s = d .before .before .before in
     let a = s .before .before .before .args in
+    let m = d .before .trigger-byte2 .ensures ∙ event-count-byte (a .triggers .now) (a .i) in
     λ n E h.
     body-end (tailOf (a .negative)) _ n _ (a .i) E _ (d .loop .j)
-    (omega (arith, d .before .event-count .ensures))
-    (omega (arith, d .before .event-count .ensures))
+    (omega (arith, m))
+    (omega (arith, m))
     (sym (s .before .counts-at .ensures n) ∙ not-false _ (s .if1 .left))
     (d .loop .inv .1 E h)
 
@@ -93,8 +95,8 @@ draw-trigger-spec =
     μ-loop
     counts-at-requires
     returns
-    head-requires
-    event-count-requires
+    trigger-byte-requires
+    trigger-byte-requires-2
     loop-holds
     event-requires
     tail-requires

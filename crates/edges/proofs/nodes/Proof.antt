@@ -1,6 +1,8 @@
 -- `edges::nodes` meets its contract. The loop's invariant: the row holds the heads of the triggers below i that count.
 -- Assumes nothing.
+use mathlib.Core.Path.{_∙_}
 use Prim.Native.Nat.{_-_, _≤_}
+use Rattle.tables.specs.Laws.{head-byte}
 use Rattle.rows.specs.Rows.{RowIs}
 use Rattle.edges.specs.Laws.{nodeBelow, nodes-none, nodes-next, nodes-end}
 use borrow.Author.Needs.{needs}
@@ -19,8 +21,8 @@ loop-holds c = (search needs, nodes-none _ _)
 counts-at-requires : tie.Need-counts-at-requires Inv-loop μ-loop
 counts-at-requires c κs = search needs
 
-head-requires : tie.Need-head-requires Inv-loop μ-loop
-head-requires c κs = search needs
+trigger-byte-requires : tie.Need-trigger-byte-requires Inv-loop μ-loop
+trigger-byte-requires c κs = search needs
 
 with-requires : tie.Need-with-requires Inv-loop μ-loop
 with-requires c κs = search needs
@@ -37,7 +39,7 @@ loop-again c =
     let d = s .before .before .before in
     let n = d .before .before .args .n in
     let i = d .loop .i in
-    (search needs, nodes-next n _ _ i _ _ (s .before .counts-at .ensures n) (s .head .ensures) (c .with .ensures (nodeBelow n _ i) (d .loop .inv .1)))
+    (search needs, nodes-next n _ _ i _ _ (s .before .counts-at .ensures n) (s .trigger-byte .ensures ∙ head-byte _ _) (c .with .ensures (nodeBelow n _ i) (d .loop .inv .1)))
 
 returns : tie.Need-returns Inv-loop μ-loop
 returns c =
@@ -52,7 +54,7 @@ nodes-spec =
     μ-loop
     loop-holds
     counts-at-requires
-    head-requires
+    trigger-byte-requires
     with-requires
     add-i
     loop-less

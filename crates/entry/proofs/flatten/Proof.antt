@@ -46,7 +46,7 @@ use denote.Triple.Clauses.{ensured, lasts}
 use denote.Triple.Walked.{says, Stays, stay-none-slice, walkOf, Walks, ends-at, walked, goes-none-slice, walk-meets}
 use Rattle.theory.specs.Numbers.{REQUESTS}
 use Rattle.requests.specs.Asked.{requestOf}
-use Rattle.flats.specs.Flat.{putAt}
+use Rattle.requests.specs.Flat.{putAt}
 use Rattle.entry.specs.Listed.{none, Holds}
 use Rattle.entry.specs.Laws.{holds-none, holds-next, holds-end}
 use Rattle.requests.specs.declared.Request.{Request}
@@ -60,10 +60,10 @@ use Rattle.entry.proofs.at_most as at-most
 use Rattle.entry.proofs.at_most.Symbol as at-most-def
 use Rattle.entry.proofs.at_most.Symbol.{name as #entry·at-most}
 use Rattle.entry.proofs.at_most.Met as at-most-thm
-use Rattle.flats.proofs.put as put
-use Rattle.flats.proofs.put.Symbol as put-def
-use Rattle.flats.proofs.put.Symbol.{name as #flats·put}
-use Rattle.flats.proofs.put.Met as put-thm
+use Rattle.entry.proofs.put as put
+use Rattle.entry.proofs.put.Symbol as put-def
+use Rattle.entry.proofs.put.Symbol.{name as #entry·put}
+use Rattle.entry.proofs.put.Met as put-thm
 use Rattle.entry.proofs.flatten.Key.{name as #entry·flatten}
 use Rattle.entry.proofs.flatten as f
 use Rattle.entry.proofs.flatten.Statement as stated
@@ -190,7 +190,7 @@ module _ {M : Type 1} (𝓤 : URA M) (H : Heap 𝓤) (A : Atoms 𝓤) (W : Given
   abbrev slice : Ty
   slice = sliceTy (tyRef (named 0) imm (pointee (R .written)))
 
-  module _ (𝓣 : Tables 𝓤 H) (known-put : Triple 𝓤 (𝓣 .C #flats·put) (Put 𝓤 H A mem run)) (l₀ l₁ l₂ l₃ l₄ l₅ l₆ l₇ l₈ l₉ l₁₀ : ℕ) where
+  module _ (𝓣 : Tables 𝓤 H) (known-put : Triple 𝓤 (𝓣 .C #entry·put) (Put 𝓤 H A mem run)) (l₀ l₁ l₂ l₃ l₄ l₅ l₆ l₇ l₈ l₉ l₁₀ : ℕ) where
     abbrev C : Calls 𝓤 H
     C = 𝓣 .C
 
@@ -260,7 +260,7 @@ module _ {M : Type 1} (𝓤 : URA M) (H : Heap 𝓤) (A : Atoms 𝓤) (W : Given
         move ! (22 ∷ 23 ∷ []) $ free1 ! $ move ! (20 ∷ 21 ∷ []) $ free1 ! $ move ! (18 ∷ 19 ∷ []) $ free1 ! $ move ! (16 ∷ 17 ∷ []) $ free1 ! $ move ! (14 ∷ 15 ∷ []) $ free1 ! $ move ! (12 ∷ 13 ∷ []) $ free1 ! $
         move ! (10 ∷ 11 ∷ []) $ free1 ! $ move ! (8 ∷ 9 ∷ []) $ free1 ! $ move ! (6 ∷ 7 ∷ []) $ free1 ! $ move ! (4 ∷ 5 ∷ []) $ free1 ! $ move ! (2 ∷ 3 ∷ []) $ free1 ! $ free0 ! $ keep ! (1 ∷ 0 ∷ []) $ by ! (exits s (nltb→le (s .i) (N ys) over)))
 
-  walk : (𝓣 : Tables 𝓤 H) → Triple 𝓤 (𝓣 .C #entry·at-most) (AtMost 𝓤 H A mem run) → Triple 𝓤 (𝓣 .C #entry·no-numbers) (NoNumbers 𝓤 H A mem run) → Triple 𝓤 (𝓣 .C #flats·put) (Put 𝓤 H A mem run)
+  walk : (𝓣 : Tables 𝓤 H) → Triple 𝓤 (𝓣 .C #entry·at-most) (AtMost 𝓤 H A mem run) → Triple 𝓤 (𝓣 .C #entry·no-numbers) (NoNumbers 𝓤 H A mem run) → Triple 𝓤 (𝓣 .C #entry·put) (Put 𝓤 H A mem run)
       → ent 𝓤 (onEntry 𝓤 H A f.signature (κ, tt) (q, tt) x at) (WpFn 𝓤 H (𝓣 .C) (𝓣 .Λ) code.function (sliceVal (b, o) (length ys) ∷ []) Post)
   walk 𝓣 known-at-most known-no-numbers known-put =
       qed W ((‵ (flft κ q) ⊛ ‵ ftrue) ∷ ‵ (owns (ShrSlice (named 0) κ R ∷ []) x at) ∷ []) ∵ enter ! (𝓣 .C) (𝓣 .Λ) code.function (sliceVal (b, o) (length ys) ∷ []) _ $
@@ -286,12 +286,12 @@ module _ {M : Type 1} (𝓤 : URA M) (H : Heap 𝓤) (A : Atoms 𝓤) (W : Given
       (record { i = 0; xs = r; v = u; is = is; le = zero-le; holds = holds-none ys r })))))))))))))))))))
 
 module _ {M : Type 1} (𝓤 : URA M) (H : Heap 𝓤) (A : Atoms 𝓤) (W : Given 𝓤 H A) (mem : Memory → SProp 𝓤) (run : Routine → Fun 𝓤) where
-  flatten-walks : (𝓣 : Tables 𝓤 H) → Triple 𝓤 (𝓣 .C #entry·at-most) (AtMost 𝓤 H A mem run) → Triple 𝓤 (𝓣 .C #entry·no-numbers) (NoNumbers 𝓤 H A mem run) → Triple 𝓤 (𝓣 .C #flats·put) (Put 𝓤 H A mem run) → Walks 𝓤 H A f.ended stayed (WpFn 𝓤 H (𝓣 .C) (𝓣 .Λ) code.function) (f.clauses 𝓤 H A mem run)
+  flatten-walks : (𝓣 : Tables 𝓤 H) → Triple 𝓤 (𝓣 .C #entry·at-most) (AtMost 𝓤 H A mem run) → Triple 𝓤 (𝓣 .C #entry·no-numbers) (NoNumbers 𝓤 H A mem run) → Triple 𝓤 (𝓣 .C #entry·put) (Put 𝓤 H A mem run) → Walks 𝓤 H A f.ended stayed (WpFn 𝓤 H (𝓣 .C) (𝓣 .Λ) code.function) (f.clauses 𝓤 H A mem run)
   flatten-walks 𝓣 ku ke kp = walked 𝓤 H A f.ended stayed (f.clauses 𝓤 H A mem run) (WpFn 𝓤 H (𝓣 .C) (𝓣 .Λ) code.function) (λ κs. (slice-vals, tt)) (λ κs. (shr-slice-tells (named 0) (κs .0) R, tt))
       (λ κs qs bounds a g are. via 𝓤 _ (fst∗ 𝓤 _ (emp 𝓤))
       (walk 𝓤 H A W mem run (κs .0) (qs .0) (a .0 .ptr .0) (a .0 .ptr .1) (a .0 .name) (a .0 .now) (are .0 .0 .1) 𝓣 ku ke kp))
 
-flatten-meets : {M : Type 1} (𝓤 : URA M) (H : Heap 𝓤) (A : Atoms 𝓤) → Given 𝓤 H A → (mem : Memory → SProp 𝓤) (run : Routine → Fun 𝓤) (𝓣 : Tables 𝓤 H) → Triple 𝓤 (𝓣 .C #entry·at-most) (AtMost 𝓤 H A mem run) → Triple 𝓤 (𝓣 .C #entry·no-numbers) (NoNumbers 𝓤 H A mem run) → Triple 𝓤 (𝓣 .C #flats·put) (Put 𝓤 H A mem run)
+flatten-meets : {M : Type 1} (𝓤 : URA M) (H : Heap 𝓤) (A : Atoms 𝓤) → Given 𝓤 H A → (mem : Memory → SProp 𝓤) (run : Routine → Fun 𝓤) (𝓣 : Tables 𝓤 H) → Triple 𝓤 (𝓣 .C #entry·at-most) (AtMost 𝓤 H A mem run) → Triple 𝓤 (𝓣 .C #entry·no-numbers) (NoNumbers 𝓤 H A mem run) → Triple 𝓤 (𝓣 .C #entry·put) (Put 𝓤 H A mem run)
     → Meets 𝓤 H A f.signature (WpFn 𝓤 H (𝓣 .C) (𝓣 .Λ) code.function) (f.spec 𝓤 H A mem run)
 flatten-meets 𝓤 H A W mem run 𝓣 ku ke kp = walk-meets 𝓤 H A f.ended stayed W (goes-none-slice 𝓤 H A W 1 (0 ∷ []) tt (plain (λ _. R)) yes, tt) (f.clauses 𝓤 H A mem run) (WpFn 𝓤 H (𝓣 .C) (𝓣 .Λ) code.function) (WpFn-mono 𝓤 H (W .laws) 𝓣 code.function) (flatten-walks 𝓤 H A W mem run 𝓣 ku ke kp)
 
@@ -303,4 +303,4 @@ flatten-spec 𝓤 H 𝓜 𝓖 𝓡 =
     (flatten-meets 𝓤 H (𝓖 .A) (givenOf 𝓤 H 𝓜 𝓖) (𝓜 .mem) (𝓡 .run) (tablesOf 𝓤 H 𝓜 (tables 𝓤 H 𝓜 𝓡 code.env))
     (cited 𝓤 H (AtMost 𝓤 H (𝓖 .A) (𝓜 .mem) (𝓡 .run)) 𝓜 𝓡 code.env #entry·at-most at-most-def.routine code.calls-entry·at-most (at-most-thm.met 𝓤 H 𝓜 𝓖 𝓡))
     (cited 𝓤 H (NoNumbers 𝓤 H (𝓖 .A) (𝓜 .mem) (𝓡 .run)) 𝓜 𝓡 code.env #entry·no-numbers no-numbers-def.routine code.calls-entry·no-numbers (no-numbers-thm.met 𝓤 H 𝓜 𝓖 𝓡))
-    (cited 𝓤 H (Put 𝓤 H (𝓖 .A) (𝓜 .mem) (𝓡 .run)) 𝓜 𝓡 code.env #flats·put put-def.routine code.calls-flats·put (put-thm.met 𝓤 H 𝓜 𝓖 𝓡)))
+    (cited 𝓤 H (Put 𝓤 H (𝓖 .A) (𝓜 .mem) (𝓡 .run)) 𝓜 𝓡 code.env #entry·put put-def.routine code.calls-entry·put (put-thm.met 𝓤 H 𝓜 𝓖 𝓡)))

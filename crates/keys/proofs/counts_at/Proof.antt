@@ -1,18 +1,21 @@
 -- `keys::counts_at` meets its contract: a trigger counts when its delay is 0.
 -- Assumes nothing.
-use mathlib.Core.Path.{refl}
+use mathlib.Core.Path.{refl, _∙_}
 use Rattle.theory.specs.Graph.{counts}
 use Rattle.tables.specs.Layout.{sheetOf}
+use Rattle.tables.specs.Laws.{delay-byte}
 use borrow.Author.Needs.{needs}
 use Rattle.keys.proofs.counts_at.Statement.{statement}
 use Rattle.keys.proofs.counts_at.Tie as tie
 
-delay-requires : tie.Need-delay-requires
-delay-requires c κs = search needs
+trigger-byte-requires : tie.Need-trigger-byte-requires
+trigger-byte-requires c κs = search needs
 
 returns : tie.Need-returns
 unfolding counts sheetOf
-returns c = λ n. rw (c .delay .ensures) refl
+returns c =
+    let a = c .before .before .args in
+    λ n. rw (c .trigger-byte .ensures ∙ delay-byte (a .triggers .now) (a .i)) refl
 
 pub counts-at-spec : {M : Type 1} → statement M
-counts-at-spec = tie.close (tie.spec delay-requires returns)
+counts-at-spec = tie.close (tie.spec trigger-byte-requires returns)

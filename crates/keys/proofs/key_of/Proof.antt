@@ -4,6 +4,7 @@ use mathlib.Core.Path.{sym, ap, _∙_}
 use borrow.Author.Tests.{not-true, not-false}
 use Rattle.theory.specs.Laws.Stage.{key-uncounted, key-forbidden, key-raised}
 use Rattle.tables.specs.Layout.{byteAt, sheetOf}
+use Rattle.tables.specs.Laws.{head-byte}
 use borrow.Author.Needs.{needs}
 use Rattle.keys.proofs.key_of.Statement.{statement}
 use Rattle.keys.proofs.key_of.Tie as tie
@@ -21,8 +22,8 @@ returns-2 : tie.Need-returns-2
 unfolding sheetOf
 returns-2 c = (search needs, λ n. key-forbidden _ _ _ _ (sym (c .before .allows .ensures) ∙ not-true _ (c .if2 .taken)))
 
-head-requires : tie.Need-head-requires
-head-requires c κs = search needs
+trigger-byte-requires : tie.Need-trigger-byte-requires
+trigger-byte-requires c κs = search needs
 
 index-requires : tie.Need-index-requires
 index-requires c κs = search needs
@@ -47,7 +48,7 @@ returns-3 c =
           key-raised _ _ _ _ _
           (sym (s .before .counts-at .ensures n) ∙ not-false _ (s .if1 .left))
           (sym (e .before .allows .ensures) ∙ not-false _ (e .if2 .left))
-          (c .byte .ensures ∙ ap (byteAt levels) (c .before .index .ensures ∙ c .before .before .head .ensures)),
+          (c .byte .ensures ∙ ap (byteAt levels) (c .before .index .ensures ∙ c .before .before .trigger-byte .ensures ∙ head-byte _ _)),
     )
 
 pub key-of-spec : {M : Type 1} → statement M
@@ -58,7 +59,7 @@ key-of-spec =
     returns
     allows-requires
     returns-2
-    head-requires
+    trigger-byte-requires
     index-requires
     byte-requires
     cast-result

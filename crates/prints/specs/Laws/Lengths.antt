@@ -6,7 +6,7 @@ use Prim.Native.Nat.{ℕ, _+_, _*_}
 use native.Mathlib.Omega.{arith}
 use lib.ListN.{length, length-append}
 use Rattle.text.specs.Lines.{LINE-END}
-use Rattle.prints.specs.Print.{hexOf, checkOf, lineOf, refusalFrame, minuteFrame}
+use Rattle.prints.specs.Print.{hexOf, checkOf, lineOf}
 
 -- two digits a byte
 pub length-hex : (f : List ℕ) → length (hexOf f) ≡ 2 * length f
@@ -18,9 +18,3 @@ pub length-line : (f : List ℕ) → length (lineOf f) ≡ 2 * length f + 3
 length-line f =
     let g = f ++ (checkOf f ∷ []) in
     omega (arith, length-append (hexOf g) (LINE-END ∷ []), length-hex g, length-append f (checkOf f ∷ []))
-
-pub length-minute : (instant roles count : ℕ) → length (minuteFrame instant roles count) ≡ 14
-length-minute instant roles count = refl
-
-pub length-refusal : (number place : ℕ) → length (refusalFrame number place) ≡ 6
-length-refusal number place = refl

@@ -4,7 +4,7 @@
 use mathlib.Core.Path.{_≡_, refl, ap, ap₂, _∙_}
 use mathlib.Core.Bool.{true, false, not}
 use mathlib.Core.List.{List, [], _∷_, _++_, append-assoc}
-use Prim.Native.Nat.{ℕ, zero, suc, _+_, _-_, _/_, _%_, _^_, _<_}
+use Prim.Native.Nat.{ℕ, zero, suc, _+_, _/_, _%_, _<_}
 use native.Mathlib.Omega.{arith}
 use lib.Dec.{eqb}
 use lib.ListN.{length, getD}
@@ -14,43 +14,23 @@ use Rattle.theory.specs.Laws.Below.{all-elim}
 use Rattle.text.specs.Lines.{LINE-END, line, lines}
 use Rattle.text.specs.Framed.{isDigit, firstBad, framed}
 use Rattle.frames.specs.Frame.{value, bytesOf, sum, checked}
-use Rattle.prints.specs.Print.{digitOf, hexOf, checkOf, lineOf, bytesIn, refusalFrame, minuteFrame}
+use Rattle.prints.specs.Print.{digitOf, hexOf, checkOf, lineOf}
 use Rattle.prints.specs.Laws.Lengths.{length-hex}
 
 -- each is a byte
 abbrev pub Bytes : List ℕ → Type 0
 Bytes f = (i : ℕ) → getD f i 0 < 256
 
-rest : (n : ℕ) → n % 256 < 256
-rest n = omega arith
-
-bytes-none : Bytes []
+pub bytes-none : Bytes []
 bytes-none i = omega arith
 
-bytes-cons : (b : ℕ) (f : List ℕ) → b < 256 → Bytes f → Bytes (b ∷ f)
+pub bytes-cons : (b : ℕ) (f : List ℕ) → b < 256 → Bytes f → Bytes (b ∷ f)
 bytes-cons b f h k zero = h
 bytes-cons b f h k (suc i) = k i
 
-bytes-append : (f g : List ℕ) → Bytes f → Bytes g → Bytes (f ++ g)
+pub bytes-append : (f g : List ℕ) → Bytes f → Bytes g → Bytes (f ++ g)
 bytes-append [] g h k = k
 bytes-append (b ∷ f) g h k = bytes-cons b (f ++ g) (h 0) (bytes-append f g (λ i. h (suc i)) k)
-
-bytes-in : (k n : ℕ) → Bytes (bytesIn k n)
-bytes-in zero n = bytes-none
-bytes-in (suc k) n = bytes-cons ((n / 256 ^ k) % 256) (bytesIn k n) (rest (n / 256 ^ k)) (bytes-in k n)
-
--- so are those of the two frames
-pub bytes-refusal : (number place : ℕ) → Bytes (refusalFrame number place)
-bytes-refusal number place =
-    bytes-append (0xe0 ∷ bytesIn 1 number) (bytesIn 4 place) (bytes-cons 0xe0 (bytesIn 1 number) (omega arith) (bytes-in 1 number)) (bytes-in 4 place)
-
-pub bytes-minute : (instant roles count : ℕ) → Bytes (minuteFrame instant roles count)
-bytes-minute instant roles count =
-    bytes-append
-    (0x50 ∷ bytesIn 4 instant)
-    (bytesIn 8 roles ++ bytesIn 1 count)
-    (bytes-cons 0x50 (bytesIn 4 instant) (omega arith) (bytes-in 4 instant))
-    (bytes-append (bytesIn 8 roles) (bytesIn 1 count) (bytes-in 8 roles) (bytes-in 1 count))
 
 -- ---- the sixteen digits, one by one
 
@@ -100,7 +80,7 @@ checked-check f = eq-eqb (sum (f ++ (checkOf f ∷ [])) % 256) 0 (omega (arith, 
 
 pub bytes-check : (f : List ℕ) → Bytes f → Bytes (f ++ (checkOf f ∷ []))
 unfolding checkOf
-bytes-check f h = bytes-append f (checkOf f ∷ []) h (bytes-cons (checkOf f) [] (rest (256 - sum f % 256)) bytes-none)
+bytes-check f h = bytes-append f (checkOf f ∷ []) h (bytes-cons (checkOf f) [] (omega arith) bytes-none)
 
 -- ---- the line
 

@@ -1,6 +1,5 @@
 -- `row_judge::fields_judged` meets its contract: the first row that does not hold what it may, or none.
 -- Assumes nothing.
-use mathlib.Core.Path.{_∙_}
 use Rattle.tables.specs.Layout.{sheetOf}
 use Rattle.row_judge.specs.Laws.{fields-at, fields-pass}
 use borrow.Author.Needs.{needs}
@@ -13,15 +12,12 @@ first-unfit-requires c κs = search needs
 row-place-requires : tie.Need-row-place-requires
 row-place-requires c κs = search needs
 
-refuse-requires : tie.Need-refuse-requires
-refuse-requires c κs = search needs
-
 returns : tie.Need-returns
 unfolding sheetOf
 returns c =
-    let p = c .before .before in
+    let p = c .before in
     let a = p .before .before .before .before .args in
-    c .refuse .ensures ∙ fields-at (sheetOf (a .roles) (a .p) (a .t) (a .periodics .now) (a .triggers .now)) _ _ (p .before .first-unfit .ensures) (p .row-place .ensures) (c .before .if1 .taken)
+    fields-at (sheetOf (a .roles) (a .p) (a .t) (a .periodics .now) (a .triggers .now)) _ _ (p .before .first-unfit .ensures) (p .row-place .ensures) (c .if1 .taken)
 
 returns-2 : tie.Need-returns-2
 unfolding sheetOf
@@ -32,4 +28,4 @@ returns-2 c =
 
 pub fields-judged-spec : {M : Type 1} → statement M
 fields-judged-spec =
-    tie.close (tie.spec first-unfit-requires row-place-requires refuse-requires returns returns-2)
+    tie.close (tie.spec first-unfit-requires row-place-requires returns returns-2)

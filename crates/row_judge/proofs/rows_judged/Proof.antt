@@ -1,6 +1,5 @@
 -- `row_judge::rows_judged` meets its contract: its tests, in their order, are the definition's.
 -- Assumes nothing.
-use mathlib.Core.Path.{_∙_}
 use Rattle.tables.specs.Layout.{sheetOf}
 use Rattle.row_judge.specs.Judge.{fewRows, rolesFit}
 use Rattle.row_judge.specs.Laws.{rows-many, rows-roles, rows-fields}
@@ -25,26 +24,19 @@ returns c =
     let a = r .before .before .before .before .args in
     rows-fields (sheetOf (a .roles) (a .p) (a .t) (a .periodics .now) (a .triggers .now)) _ (r .before .few-rows .ensures) _ (r .roles-fit .ensures) (t .before .if1 .taken) (t .if2 .taken) _ (c .fields-judged .ensures)
 
-refuse-requires : tie.Need-refuse-requires
-refuse-requires c κs = search needs
-
 returns-2 : tie.Need-returns-2
 unfolding sheetOf fewRows rolesFit
 returns-2 c =
-    let t = c .before in
-    let r = t .before .before in
+    let r = c .before .before in
     let a = r .before .before .before .before .args in
-    c .refuse .ensures ∙ rows-roles (sheetOf (a .roles) (a .p) (a .t) (a .periodics .now) (a .triggers .now)) _ (r .before .few-rows .ensures) _ (r .roles-fit .ensures) (t .before .if1 .taken) (t .if2 .left)
-
-refuse-requires-2 : tie.Need-refuse-requires-2
-refuse-requires-2 c κs = search needs
+    rows-roles (sheetOf (a .roles) (a .p) (a .t) (a .periodics .now) (a .triggers .now)) _ (r .before .few-rows .ensures) _ (r .roles-fit .ensures) (c .before .if1 .taken) (c .if2 .left)
 
 returns-3 : tie.Need-returns-3
 unfolding sheetOf fewRows
 returns-3 c =
-    let f = c .before .before .before in
+    let f = c .before .before in
     let a = f .before .before .before .args in
-    c .refuse2 .ensures ∙ rows-many (sheetOf (a .roles) (a .p) (a .t) (a .periodics .now) (a .triggers .now)) _ (f .few-rows .ensures) (c .before .if1 .left)
+    rows-many (sheetOf (a .roles) (a .p) (a .t) (a .periodics .now) (a .triggers .now)) _ (f .few-rows .ensures) (c .if1 .left)
 
 pub rows-judged-spec : {M : Type 1} → statement M
 rows-judged-spec =
@@ -54,7 +46,5 @@ rows-judged-spec =
     roles-fit-requires
     fields-judged-requires
     returns
-    refuse-requires
     returns-2
-    refuse-requires-2
     returns-3)

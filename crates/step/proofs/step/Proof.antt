@@ -1,17 +1,12 @@
 -- `step::step` meets its contract: by the verdict on lengths, instant and number of requests, and then by that of `step_within`.
 -- Assumes nothing.
+use native.Mathlib.Omega.{arith}
 use Rattle.row_judge.specs.Judge.{rules}
 use Rattle.step.specs.Outcome.{lent, lengthsFit}
-use Rattle.step.specs.Laws.Whole.{outer-ready, outer-passed, outer-refused}
+use Rattle.step.specs.Laws.Whole.{outer-ready, outer-few, outer-passed, outer-refused}
 use borrow.Author.Needs.{needs}
 use Rattle.step.proofs.step.Statement.{statement}
 use Rattle.step.proofs.step.Tie as tie
-
-lengths-fit-requires : tie.Need-lengths-fit-requires
-lengths-fit-requires c κs = search needs
-
-fewer-requires : tie.Need-fewer-requires
-fewer-requires c κs = search needs
 
 judge-first-requires : tie.Need-judge-first-requires
 judge-first-requires c κs = search needs
@@ -22,15 +17,24 @@ enum-told c = search needs
 slice-aggregate-step-within : tie.Need-slice-aggregate-step-within
 slice-aggregate-step-within c = search needs
 
+cast-step-within : tie.Need-cast-step-within
+unfolding lengthsFit
+cast-step-within c =
+    let n = c .before in
+    let v = n .before .before in
+    let a = v .before .before .before .before .before .before .args in
+    let few = outer-few (rules (a .roles) (a .periodic-count) (a .trigger-count) (a .periodics .now) (a .triggers .now)) (a .t6) (a .n) (lent (a .instant .now) (a .enabled .now) (a .waiting .now) (a .events .now))
+    _ (v .judge-first .ensures) (n .enum-told .given .1) in
+    omega (arith, few)
+
 step-within-requires : tie.Need-step-within-requires
 unfolding lengthsFit
 step-within-requires c κs =
     let n = c .before .before .before .before .before in
     let v = n .before .before in
-    let f = v .before .before in
-    let a = f .before .before .before .before .before .before .args in
+    let a = v .before .before .before .before .before .before .args in
     outer-ready (rules (a .roles) (a .periodic-count) (a .trigger-count) (a .periodics .now) (a .triggers .now)) (a .t6) (a .n) (lent (a .instant .now) (a .enabled .now) (a .waiting .now) (a .events .now))
-    _ _ _ (f .before .lengths-fit .ensures) (f .fewer .ensures) (v .judge-first .ensures) (n .enum-told .given .1)
+    _ (v .judge-first .ensures) (n .enum-told .given .1)
 
 enum-known-first : tie.Need-enum-known-first
 enum-known-first c = search needs
@@ -47,29 +51,26 @@ returns c =
     let s = c .before .before .before .before in
     let n = s .before .before .before .before .before .before in
     let v = n .before .before in
-    let f = v .before .before in
-    let a = f .before .before .before .before .before .before .args in
+    let a = v .before .before .before .before .before .before .args in
     outer-passed (rules (a .roles) (a .periodic-count) (a .trigger-count) (a .periodics .now) (a .triggers .now)) (a .t6) (a .n) (lent (a .instant .now) (a .enabled .now) (a .waiting .now) (a .events .now))
-    _ _ _ (f .before .lengths-fit .ensures) (f .fewer .ensures) (v .judge-first .ensures) _ _ (n .enum-told .given .1) (s .step-within .ensures)
+    _ (v .judge-first .ensures) _ _ (n .enum-told .given .1) (s .step-within .ensures)
 
 returns-2 : tie.Need-returns-2
 unfolding lengthsFit
 returns-2 c =
     let v = c .before .before .before in
-    let f = v .before .before in
-    let a = f .before .before .before .before .before .before .args in
+    let a = v .before .before .before .before .before .before .args in
     outer-refused (rules (a .roles) (a .periodic-count) (a .trigger-count) (a .periodics .now) (a .triggers .now)) (a .t6) (a .n) (lent (a .instant .now) (a .enabled .now) (a .waiting .now) (a .events .now))
-    _ _ _ (f .before .lengths-fit .ensures) (f .fewer .ensures) (v .judge-first .ensures) _ (c .before .first .given .1)
+    _ (v .judge-first .ensures) _ (c .before .first .given .1)
 
 pub step-spec : {M : Type 1} → statement M
 step-spec =
     tie.close
     (tie.spec
-    lengths-fit-requires
-    fewer-requires
     judge-first-requires
     enum-told
     slice-aggregate-step-within
+    cast-step-within
     step-within-requires
     enum-known-first
     same-length

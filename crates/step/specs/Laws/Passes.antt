@@ -4,16 +4,14 @@ use mathlib.Core.Path.{_≡_, refl, sym, ap, _∙_, subst}
 use mathlib.Core.Logic.{⊎-elim}
 use mathlib.Core.Bool.{Bool, true, false, cond, _&&_}
 use Prim.Native.Nat.{ℕ, _≤_}
-use native.Mathlib.Omega.{arith}
 use lib.Dec.{leb, eqb}
 use lib.ListN.{length}
 use borrow.Author.Tests.{leb-true, le-leb, eqb-true, eq-eqb}
 use Rattle.theory.specs.Numbers.{EVENTS, LAST-INSTANT, REQUESTS, WAITING-NUMBERS}
 use Rattle.theory.specs.Laws.Tests.{and-left, and-right, test}
-use Rattle.answers.specs.declared.Name.{Name}
 use Rattle.answers.specs.declared.Name.the-variants.{Length, TooMany, Last}
 use Rattle.answers.specs.declared.Verdict.{Verdict}
-use Rattle.answers.specs.declared.Verdict.the-variants.{Pass, Refuse}
+use Rattle.answers.specs.declared.Verdict.the-variants.{Pass}
 use Rattle.answers.specs.Laws.{cond-pass, both-pass}
 use Rattle.theory.specs.Graph.{Levels}
 use Rattle.tables.specs.Layout.{byteAt, PERIODIC-TABLE, TRIGGER-TABLE}
@@ -23,7 +21,7 @@ use Rattle.row_judge.specs.Judge.{Rules, sheetIn, judgeTables}
 use Rattle.judge.specs.declared.Judged.{Judged}
 use Rattle.judge.specs.Judged.{judged}
 use Rattle.judge.specs.Laws.{judge-passes, judged-levels}
-use Rattle.order.specs.Order.{exactLengths, fewer, judgeFirst}
+use Rattle.order.specs.Order.{exactLengths, judgeFirst}
 use Rattle.requests.specs.Requests.{judgeRequests}
 use Rattle.requests.specs.Laws.{requests-pass}
 use Rattle.step.specs.Outcome.{Lent, lengthsFit, judgeStep}
@@ -39,23 +37,6 @@ first-says fit t n h =
     let c = cond-pass (leb n REQUESTS) _ _ _ (b .1) in
     (a .0, leb-true t LAST-INSTANT (b .0), leb-true n REQUESTS (c .0))
 
--- the number of requests is told apart as far as it matters
-pub fewer-same : (n : ℕ) → fewer n ≤ REQUESTS → fewer n ≡ n
-unfolding fewer
-fewer-same n h =
-    ⊎-elim
-    (λ (t : leb n REQUESTS ≡ true). rw t refl)
-    (λ (f : leb n REQUESTS ≡ false). absurd (let z : 33 ≤ REQUESTS = rw f at h in omega arith))
-    (test (leb n REQUESTS))
-
-first-fewer : (fit : Bool) (t n : ℕ) → judgeFirst fit t (fewer n) ≡ judgeFirst fit t n
-unfolding judgeFirst fewer
-first-fewer fit t n =
-    ⊎-elim
-    (λ (h : leb n REQUESTS ≡ true). rw h (rw h refl))
-    (λ (h : leb n REQUESTS ≡ false). rw h refl)
-    (test (leb n REQUESTS))
-
 -- the verdict in two parts
 parted : (fit : Bool) (t n : ℕ) (v : Verdict) → andThen (judgeFirst fit t n) v ≡ cond fit (cond (leb t LAST-INSTANT) (cond (leb n REQUESTS) v (refuse TooMany 0)) (refuse Last 0)) (refuse Length 0)
 unfolding andThen judgeFirst
@@ -67,14 +48,10 @@ parted true t n v =
     (test (leb t LAST-INSTANT))
 parted false t n v = refl
 
-pub step-parts : (R : Rules) (q : Asked) (l : Lent) (fit : Bool) (n : ℕ) → fit ≡ lengthsFit R l → n ≡ fewer (q .count)
-    → judgeStep R q l ≡ andThen (judgeFirst fit (l .instant) n) (andThen (judgeTables (sheetIn R)) (judgeRequests (R .roleCount) q))
+pub step-parts : (R : Rules) (q : Asked) (l : Lent)
+    → judgeStep R q l ≡ andThen (judgeFirst (lengthsFit R l) (l .instant) (q .count)) (andThen (judgeTables (sheetIn R)) (judgeRequests (R .roleCount) q))
 unfolding judgeStep
-step-parts R q l fit n f m =
-    let tests : Verdict = andThen (judgeTables (sheetIn R)) (judgeRequests (R .roleCount) q) in
-    sym (parted (lengthsFit R l) (l .instant) (q .count) tests)
-    ∙ (ap (λ (v : Verdict). andThen v tests) (sym (first-fewer (lengthsFit R l) (l .instant) (q .count)))
-    ∙ rw (f, m) refl)
+step-parts R q l = sym (parted (lengthsFit R l) (l .instant) (q .count) (andThen (judgeTables (sheetIn R)) (judgeRequests (R .roleCount) q)))
 
 -- ---- the lengths
 

@@ -1,10 +1,9 @@
 -- The outcome, put together from the verdicts of its parts and what was then done.
 -- Assumes nothing.
-use mathlib.Core.Path.{_≡_, refl, sym, ap, ap₂, _∙_, subst}
-use mathlib.Core.Bool.{Bool}
+use mathlib.Core.Path.{_≡_, refl, sym, ap, ap₂, _∙_}
 use mathlib.Core.List.{List}
 use Prim.Native.Nat.{ℕ, _≤_}
-use Rattle.theory.specs.Numbers.{LAST-INSTANT}
+use Rattle.theory.specs.Numbers.{LAST-INSTANT, REQUESTS}
 use Rattle.answers.specs.Laws.{no-pass}
 use Rattle.answers.specs.declared.Refusal.{Refusal}
 use Rattle.answers.specs.declared.Verdict.{Verdict}
@@ -15,12 +14,12 @@ use Rattle.answers.specs.Answers.{andThen}
 use Rattle.row_judge.specs.Judge.{Rules, sheetIn, judgeTables}
 use Rattle.judge.specs.Judged.{judged}
 use Rattle.minute.specs.Minute.{Acted}
-use Rattle.order.specs.Order.{fewer, judgeFirst}
+use Rattle.order.specs.Order.{judgeFirst}
 use Rattle.requests.specs.Requests.{judgeRequests}
 use Rattle.step.specs.Outcome.{Lent, lengthsFit, judgeStep, Outcome}
 use Rattle.step.specs.Parts.{Sized, Inner}
 use Rattle.step.specs.Laws.Acted.{acted}
-use Rattle.step.specs.Laws.Passes.{first-says, fewer-same, step-parts, lengths-say, verdict-is, sound}
+use Rattle.step.specs.Laws.Passes.{first-says, step-parts, lengths-say, verdict-is, sound}
 
 -- ---- by the tables and the requests
 
@@ -43,36 +42,28 @@ module _ (R : Rules) (q : Asked) (before : Lent) (j : Judged) (v w : Verdict) (e
 
 -- ---- by LENGTH, LAST and TOO MANY of requests
 
-module _ (R : Rules) (asked : List ℕ) (n : ℕ) (before : Lent) (fit : Bool) (m : ℕ) (v : Verdict)
-    (e : fit ≡ lengthsFit R before) (f : m ≡ fewer n) (h : v ≡ judgeFirst fit (before .instant) m) where
+module _ (R : Rules) (asked : List ℕ) (n : ℕ) (before : Lent) (v : Verdict) (h : v ≡ judgeFirst (lengthsFit R before) (before .instant) n) where
+  -- after a pass the instant is served, the buffers have their lengths, and the requests are few
   pub outer-ready : v ≡ Pass → (before .instant ≤ LAST-INSTANT) × Sized (before .waiting) (before .events)
   outer-ready p =
-      let s = first-says fit (before .instant) m (sym h ∙ p) in
-      let l = lengths-say R before (sym e ∙ s .0) in
+      let s = first-says (lengthsFit R before) (before .instant) n (sym h ∙ p) in
+      let l = lengths-say R before (s .0) in
       (s .1, (l .waiting, l .events))
 
-  outer-verdict : judgeStep R (flat asked n) before ≡ andThen v (andThen (judgeTables (sheetIn R)) (judgeRequests (R .roleCount) (flat asked n)))
-  outer-verdict =
-      step-parts R (flat asked n) before fit m e f
-      ∙ ap (λ (x : Verdict). andThen x (andThen (judgeTables (sheetIn R)) (judgeRequests (R .roleCount) (flat asked n)))) (sym h)
+  pub outer-few : v ≡ Pass → n ≤ REQUESTS
+  outer-few p = first-says (lengthsFit R before) (before .instant) n (sym h ∙ p) .2
 
-  -- after a pass the number of requests is as it was given
-  same-number : v ≡ Pass → m ≡ n
-  same-number p = let s = first-says fit (before .instant) m (sym h ∙ p) in f ∙ fewer-same n (subst (λ (k : ℕ). k ≤ 32) f (s .2))
+  -- the tests that are left
+  abbrev tests : Verdict
+  tests = andThen (judgeTables (sheetIn R)) (judgeRequests (R .roleCount) (flat asked n))
 
-  pub outer-passed : (u : Verdict) (after : Lent) → v ≡ Pass → Inner R (flat asked m) before u after → Outcome R (flat asked n) before u after
+  outer-verdict : (w : Verdict) → v ≡ w → andThen w tests ≡ judgeStep R (flat asked n) before
+  outer-verdict w p = sym (step-parts R (flat asked n) before ∙ ap (λ (x : Verdict). andThen x tests) (sym h ∙ p))
+
+  pub outer-passed : (u : Verdict) (after : Lent) → v ≡ Pass → Inner R (flat asked n) before u after → Outcome R (flat asked n) before u after
   unfolding andThen
-  outer-passed u after p x =
-      let y : Inner R (flat asked n) before u after = subst (λ (k : ℕ). Inner R (flat asked k) before u after) (same-number p) x in
-      let tests : Verdict = andThen (judgeTables (sheetIn R)) (judgeRequests (R .roleCount) (flat asked n)) in
-      record {
-        judged = y .judged ∙ sym (outer-verdict ∙ ap (λ (z : Verdict). andThen z tests) p);
-        refused = y .refused;
-        passed = y .passed;
-      }
+  outer-passed u after p x = record { judged = x .judged ∙ outer-verdict Pass p; refused = x .refused; passed = x .passed }
 
   pub outer-refused : (r : Refusal) → v ≡ Refuse r → Outcome R (flat asked n) before (Refuse r) before
   unfolding andThen
-  outer-refused r p =
-      let tests : Verdict = andThen (judgeTables (sheetIn R)) (judgeRequests (R .roleCount) (flat asked n)) in
-      record { judged = sym (outer-verdict ∙ ap (λ (z : Verdict). andThen z tests) p); refused = λ _ _. refl; passed = λ z. no-pass r z }
+  outer-refused r p = record { judged = outer-verdict (Refuse r) p; refused = λ _ _. refl; passed = λ z. no-pass r z }

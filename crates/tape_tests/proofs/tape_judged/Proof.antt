@@ -1,6 +1,6 @@
 -- `tape_tests::tape_judged` meets its contract: FRAME, CHECK, then the tests of the frame.
 -- Assumes nothing.
-use mathlib.Core.Path.{sym, _∙_}
+use mathlib.Core.Path.{refl, sym, _∙_}
 use Rattle.tape_tests.specs.Tape.{judgeTape}
 use borrow.Author.Needs.{needs}
 use Rattle.tape_tests.proofs.tape_judged.Statement.{statement}
@@ -17,23 +17,18 @@ frame-judged-requires c κs = search needs
 
 returns : tie.Need-returns
 unfolding judgeTape
-returns c = let d = c .before .before in
+returns c =
+    let d = c .before .before in
     rw (sym (d .before .before .is-framed .ensures) ∙ d .before .if1 .taken, sym (d .is-checked .ensures) ∙ c .before .if2 .taken) (c .frame-judged .ensures)
-
-refuse-requires : tie.Need-refuse-requires
-refuse-requires c κs = search needs
 
 returns-2 : tie.Need-returns-2
 unfolding judgeTape
-returns-2 c = let d = c .before .before in
-    rw (sym (d .before .before .is-framed .ensures) ∙ d .before .if1 .taken, sym (d .is-checked .ensures) ∙ c .before .if2 .left) (c .refuse .ensures)
-
-refuse-requires-2 : tie.Need-refuse-requires-2
-refuse-requires-2 c κs = search needs
+returns-2 c = let d = c .before in
+    rw (sym (d .before .before .is-framed .ensures) ∙ d .before .if1 .taken, sym (d .is-checked .ensures) ∙ c .if2 .left) refl
 
 returns-3 : tie.Need-returns-3
 unfolding judgeTape
-returns-3 c = rw (sym (c .before .before .is-framed .ensures) ∙ c .before .if1 .left) (c .refuse2 .ensures)
+returns-3 c = rw (sym (c .before .is-framed .ensures) ∙ c .if1 .left) refl
 
 pub tape-judged-spec : {M : Type 1} → statement M
 tape-judged-spec =
@@ -43,7 +38,5 @@ tape-judged-spec =
     is-checked-requires
     frame-judged-requires
     returns
-    refuse-requires
     returns-2
-    refuse-requires-2
     returns-3)

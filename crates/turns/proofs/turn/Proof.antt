@@ -3,6 +3,7 @@
 use mathlib.Core.Path.{sym, _∙_}
 use borrow.Author.Tests.{not-true, not-false}
 use Rattle.theory.specs.Laws.Stage.{turn-unmet, turn-met}
+use Rattle.tables.specs.Laws.{head-byte, priority-byte}
 use borrow.Author.Needs.{needs}
 use Rattle.turns.proofs.turn.Statement.{statement}
 use Rattle.turns.proofs.turn.Tie as tie
@@ -16,11 +17,11 @@ same-length c = search needs
 returns : tie.Need-returns
 returns c = turn-unmet _ _ (sym (c .before .met .ensures) ∙ not-true _ (c .if1 .taken))
 
-head-requires : tie.Need-head-requires
-head-requires c κs = search needs
+trigger-byte-requires : tie.Need-trigger-byte-requires
+trigger-byte-requires c κs = search needs
 
-priority-requires : tie.Need-priority-requires
-priority-requires c κs = search needs
+trigger-byte-requires-2 : tie.Need-trigger-byte-requires-2
+trigger-byte-requires-2 c κs = search needs
 
 put-requires : tie.Need-put-requires
 put-requires c κs = search needs
@@ -33,7 +34,7 @@ returns-2 c =
     let p = c .before .before .before .before in
     let s = p .before .before in
     turn-met _ _ _ _ _ _ (sym (s .before .met .ensures) ∙ not-false _ (s .if1 .left))
-    (p .before .head .ensures) (p .priority .ensures) (c .before .before .put .ensures)
+    (p .before .trigger-byte .ensures ∙ head-byte _ _) (p .trigger-byte2 .ensures ∙ priority-byte _ _) (c .before .before .put .ensures)
 
 pub turn-spec : {M : Type 1} → statement M
 turn-spec =
@@ -42,8 +43,8 @@ turn-spec =
     met-requires
     same-length
     returns
-    head-requires
-    priority-requires
+    trigger-byte-requires
+    trigger-byte-requires-2
     put-requires
     same-length-2
     returns-2)

@@ -4,6 +4,7 @@ use mathlib.Core.Path.{_≡_, refl, _∙_}
 use Prim.Native.Nat.{_-_, _≤_}
 use lib.ListN.{length}
 use Rattle.tables.specs.Layout.{triggerAt}
+use Rattle.tables.specs.Laws.{head-byte, priority-byte, delay-byte}
 use Rattle.tables.specs.Buffers.{rolesOf, eventsOf}
 use Rattle.masks.specs.Joins.{joins}
 use Rattle.masks.specs.Laws.Joins.{joins-none, joins-next, joins-end}
@@ -25,17 +26,17 @@ loop-holds c = (search needs, refl, joins-none _ _)
 comes-to-wait-requires : tie.Need-comes-to-wait-requires Inv-loop μ-loop
 comes-to-wait-requires c κs = search needs
 
-delay-requires : tie.Need-delay-requires Inv-loop μ-loop
-delay-requires c κs = search needs
+trigger-byte-requires : tie.Need-trigger-byte-requires Inv-loop μ-loop
+trigger-byte-requires c κs = search needs
 
-head-requires : tie.Need-head-requires Inv-loop μ-loop
-head-requires c κs = search needs
+trigger-byte-requires-2 : tie.Need-trigger-byte-requires-2 Inv-loop μ-loop
+trigger-byte-requires-2 c κs = search needs
 
 place-requires : tie.Need-place-requires Inv-loop μ-loop
 place-requires c κs = search needs
 
-priority-requires : tie.Need-priority-requires Inv-loop μ-loop
-priority-requires c κs = search needs
+trigger-byte-requires-3 : tie.Need-trigger-byte-requires-3 Inv-loop μ-loop
+trigger-byte-requires-3 c κs = search needs
 
 join-where-requires : tie.Need-join-where-requires Inv-loop μ-loop
 join-where-requires c κs = search needs
@@ -53,7 +54,7 @@ loop-again c =
     let x = p .before .before in
     let w = x .before .before .before in
     let l = w .before .before .loop in
-    (search needs, j .kept .0 ∙ l .inv .1, joins-next _ _ _ _ _ _ (l .inv .2) (trigger-entry _ _ _ _ _ _ _ _ _ (w .comes-to-wait .ensures) (x .place .ensures) (x .before .before .delay .ensures) (x .before .head .ensures) (p .priority .ensures)) (j .ensures))
+    (search needs, j .kept .0 ∙ l .inv .1, joins-next _ _ _ _ _ _ (l .inv .2) (trigger-entry _ _ _ _ _ _ _ _ _ (w .comes-to-wait .ensures) (x .place .ensures) (x .before .before .trigger-byte .ensures ∙ delay-byte _ _) (x .before .trigger-byte2 .ensures ∙ head-byte _ _) (p .trigger-byte3 .ensures ∙ priority-byte _ _)) (j .ensures))
 
 same-length : tie.Need-same-length Inv-loop μ-loop
 same-length c = search needs
@@ -69,10 +70,10 @@ wait-triggers-spec =
     μ-loop
     loop-holds
     comes-to-wait-requires
-    delay-requires
-    head-requires
+    trigger-byte-requires
+    trigger-byte-requires-2
     place-requires
-    priority-requires
+    trigger-byte-requires-3
     join-where-requires
     add-i
     loop-less

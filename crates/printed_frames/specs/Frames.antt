@@ -1,0 +1,17 @@
+-- The frames that are printed, their check left out: numbers high byte first (document 01, 'The sheet' and 'The day program').
+-- Assumes nothing.
+use mathlib.Core.List.{List, [], _∷_, _++_}
+use Prim.Native.Nat.{ℕ, zero, suc, _/_, _%_, _^_}
+
+-- a number in k bytes, high byte first
+abbrev pub bytesIn : ℕ → ℕ → List ℕ
+bytesIn zero n = []
+bytesIn (suc k) n = (n / 256 ^ k) % 256 ∷ bytesIn k n
+
+-- a refusal: E0, number 1, place 4
+abbrev pub refusalFrame : ℕ → ℕ → List ℕ
+refusalFrame number place = 0xe0 ∷ bytesIn 1 number ++ bytesIn 4 place
+
+-- a minute: 50, instant 4, enabled roles after it 8, count 1
+abbrev pub minuteFrame : ℕ → ℕ → ℕ → List ℕ
+minuteFrame instant roles count = 0x50 ∷ bytesIn 4 instant ++ (bytesIn 8 roles ++ bytesIn 1 count)

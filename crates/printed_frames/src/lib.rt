@@ -1,0 +1,50 @@
+ghost use mathlib.Core.Path.{_≡_};
+ghost use Prim.Native.Nat.{_/_, _%_, _<_};
+ghost use Rattle.printed_frames.specs.Frames.{refusalFrame, minuteFrame};
+use basic::long;
+
+// The byte of a number that has this weight.
+fn byte_of(n: u64, weight: u64) -> u8
+    requires { ⌜ 0 < weight ⌝ }
+    ensures { λ r. ⌜ r ≡ (n / weight) % 256 ⌝ }
+{
+    ((n / weight) % 256) as u8
+}
+
+// The frame of a minute: the instant, the enabled roles after it, and the count.
+pub fn minute_frame(instant: u32, roles: u64, count: u8) -> [u8; 14]
+    ensures { λ r. ⌜ r ≡ minuteFrame instant roles count ⌝ }
+{
+    let t = long(instant);
+    [
+        0x50,
+        byte_of(t, 0x1000000),
+        byte_of(t, 0x10000),
+        byte_of(t, 0x100),
+        byte_of(t, 1),
+        byte_of(roles, 0x100000000000000),
+        byte_of(roles, 0x1000000000000),
+        byte_of(roles, 0x10000000000),
+        byte_of(roles, 0x100000000),
+        byte_of(roles, 0x1000000),
+        byte_of(roles, 0x10000),
+        byte_of(roles, 0x100),
+        byte_of(roles, 1),
+        count,
+    ]
+}
+
+// The frame of a refusal: its number and its place.
+pub fn refusal_frame(number: u8, place: u32) -> [u8; 6]
+    ensures { λ r. ⌜ r ≡ refusalFrame number place ⌝ }
+{
+    let p = long(place);
+    [
+        0xe0,
+        number,
+        byte_of(p, 0x1000000),
+        byte_of(p, 0x10000),
+        byte_of(p, 0x100),
+        byte_of(p, 1),
+    ]
+}
