@@ -35,7 +35,7 @@ use Rattle.accepted.specs.Laws.SoFar.{SoFar}
 use Rattle.accepted.specs.Laws.Lines.{read-so-far}
 
 -- before the first line
-start-so-far : SoFar start
+pub start-so-far : SoFar start
 start-so-far = record { periodic-bytes = length-replicate {A = ℕ} PERIODIC-TABLE 0; trigger-bytes = length-replicate {A = ℕ} TRIGGER-TABLE 0; in-order = (refl, refl) }
 
 -- a sheet in good order in which the loop test finds nothing has no loop

@@ -1,0 +1,650 @@
+-- EVERY PUBLIC FUNCTION IS EXACT: its contract leaves one possible answer and one possible content of every lent buffer, so any two outcomes that it allows are equal. In the order of
+-- crates.txt, each function's name, its contract in the words of its `ensures` (x is what is lent as x, x′ the same at the end), and the theorem of its crate. The gate holds the list to the
+-- code, by `tools/listed`: every public function and the words of its contract stand here. At the end are those that ask something of their callers, and the exceptions.
+-- Assumes nothing.
+use mathlib.Core.Path.{_≡_, ap}
+use mathlib.Core.Bool.{Bool, _&&_, _||_}
+use mathlib.Core.List.{List}
+use Prim.Native.Nat.{ℕ, _+_, _*_, _≤_, _<_}
+use lib.Dec.{eqb}
+use lib.ListN.{drop, getD, length, set}
+use lib.Seq.{paste}
+use Rattle.theory.specs.Agreed.{limits}
+use Rattle.theory.specs.Below.{countBelow, one}
+use Rattle.theory.specs.Events.{conf, nonblocked}
+use Rattle.theory.specs.Graph.{Levels, node}
+use Rattle.theory.specs.Instant.{allows, met}
+use Rattle.theory.specs.LoopTest.{through}
+use Rattle.theory.specs.Numbers.{EVENTS, ROLES}
+use Rattle.theory.specs.Sheet.{GoodOrder, ofRoles, periodicFits, triggerFits}
+use Rattle.answers.specs.declared.Name.{Name}
+use Rattle.answers.specs.declared.Verdict.{Verdict}
+use Rattle.answers.specs.Answers.{answered, numberOf}
+use Rattle.tables.specs.Agreed.{sizes}
+use Rattle.tables.specs.Asked.{flat, requestAt}
+use Rattle.tables.specs.Buffers.{bit, eventsOf, rolesOf}
+use Rattle.tables.specs.Layout.{TRIGGER-BYTES, byteAt, periodicAt, sheetOf, triggerAt, triggersOf, two}
+use Rattle.periodics.specs.declared.PeriodicRow.{PeriodicRow}
+use Rattle.periodics.specs.Rows.{periodicOf}
+use Rattle.masks.specs.Joins.{joinedWhere, joins}
+use Rattle.masks.specs.Masks.{joinedAt, withRole}
+use Rattle.due.specs.Due.{dueAt}
+use Rattle.solver.specs.Solved.{Solved}
+use Rattle.waiting.specs.Waiting.{cleared, copied, placeOf, triggerEntry}
+use Rattle.after.specs.After.{rolesBelow}
+use Rattle.rows.specs.Exact.{wholeRows}
+use Rattle.rows.specs.Rows.{Become, Row, RowIs, edgesOf, linked, reaches, whole}
+use Rattle.edges.specs.Drawing.{addedFrom, drawsBelow, tailOf}
+use Rattle.loops.specs.declared.Found.{Found}
+use Rattle.loops.specs.Tested.{tested}
+use Rattle.row_judge.specs.Judge.{judgeRows, rules}
+use Rattle.judge.specs.Judged.{judged, loopVerdict}
+use Rattle.text.specs.Framed.{framed}
+use Rattle.text.specs.Laws.Lines.{span}
+use Rattle.text.specs.Lines.{lines}
+use Rattle.frames.specs.Frame.{bytesOf, checked}
+use Rattle.printed_frames.specs.Frames.{minuteFrame, refusalFrame}
+use Rattle.prints.specs.Print.{lineOf}
+use Rattle.walks.specs.Walks.{goes}
+use Rattle.periodic_frames.specs.Row.{periodicRow}
+use Rattle.trigger_frames.specs.Row.{triggerRow}
+use Rattle.kinds.specs.declared.Stage.{Stage}
+use Rattle.kinds.specs.Kinds.{mayStand, sized}
+use Rattle.row_counts.specs.Counts.{countsAgree, roomFor}
+use Rattle.fields.specs.Fields.{frameFits}
+use Rattle.line_tests.specs.declared.Seen.{Seen}
+use Rattle.line_tests.specs.Judge.{judgeLine}
+use Rattle.line_acts.specs.Acts.{after, state}
+use Rattle.lines.specs.declared.Taken.{Taken}
+use Rattle.lines.specs.Exact.{Same}
+use Rattle.lines.specs.Lines.{fresh, reads}
+use Rattle.readings.specs.declared.Reading.{Reading}
+use Rattle.readings.specs.Readings.{verdictOf}
+use Rattle.hand_out.specs.Out.{afterLines, outcome}
+use Rattle.sheet.specs.Sheet.{reading}
+use Rattle.requests.specs.declared.Request.{Request}
+use Rattle.requests.specs.Asked.{requestOf}
+use Rattle.requests.specs.Requests.{fits, givenEntry, judgeRequests, waitEntry}
+use Rattle.order.specs.Order.{exactLengths, judgeFirst}
+use Rattle.minute.specs.Minute.{Acted}
+use Rattle.step.specs.Outcome.{Lent, Outcome, lent}
+use Rattle.entry.specs.Listed.{listed}
+use Rattle.tape_tests.specs.declared.Heard.{Heard}
+use Rattle.tape_frames.specs.Frame.{askedIn, instantOf}
+use Rattle.tape_tests.specs.Tape.{judgeTape}
+use Rattle.tape.specs.Laws.{took}
+use Rattle.tape.specs.Tape.{tapeRead}
+use Rattle.split.specs.Parted.{parted}
+use Rattle.batches.specs.Batch.{noneYet, rest, takes}
+use Rattle.openings.specs.Planned.{opened, planned}
+use Rattle.day_minute.specs.Minute.{MinuteOutcome}
+use Rattle.days.specs.Day.{DayOutcome}
+use Rattle.lines.specs.Laws.Took
+use Rattle.theory.specs.Laws.Exact as theory
+use Rattle.answers.specs.Exact as answers
+use Rattle.basic.specs.Exact as basic
+use Rattle.tables.specs.Exact as tables
+use Rattle.periodics.specs.Exact as periodics
+use Rattle.triggers.specs.Exact as triggers
+use Rattle.limits.specs.Exact as limits
+use Rattle.trigger_limits.specs.Exact as trigger-limits
+use Rattle.masks.specs.Exact as masks
+use Rattle.live.specs.Exact as live
+use Rattle.roles.specs.Exact as roles
+use Rattle.bodies.specs.Exact as bodies
+use Rattle.due.specs.Exact as due
+use Rattle.solver.specs.Exact as solver
+use Rattle.waiting.specs.Exact as Waiting
+use Rattle.after.specs.Exact as After
+use Rattle.rows.specs.Exact as Rows
+use Rattle.reach.specs.Exact as reach
+use Rattle.edges.specs.Exact as edges
+use Rattle.loops.specs.Exact as loops
+use Rattle.row_judge.specs.Exact as row-judge
+use Rattle.judge.specs.Exact as judge
+use Rattle.text.specs.Laws.Exact as text
+use Rattle.frames.specs.Laws.Exact as frames
+use Rattle.printed_frames.specs.Exact as printed-frames
+use Rattle.prints.specs.Exact as prints
+use Rattle.periodic_frames.specs.Exact as periodic-frames
+use Rattle.trigger_frames.specs.Exact as trigger-frames
+use Rattle.kinds.specs.Exact as kinds
+use Rattle.row_counts.specs.Exact as row-counts
+use Rattle.fields.specs.Exact as fields
+use Rattle.line_tests.specs.Exact as line-tests
+use Rattle.line_acts.specs.Exact as line-acts
+use Rattle.lines.specs.Exact as Lines
+use Rattle.readings.specs.Exact as readings
+use Rattle.hand_out.specs.Exact as hand-out
+use Rattle.sheet.specs.Laws.Exact as sheet
+use Rattle.requests.specs.Exact as requests
+use Rattle.asked.specs.Exact as asked
+use Rattle.order.specs.Exact as order
+use Rattle.minute.specs.Exact as minute
+use Rattle.step.specs.Exact as Step
+use Rattle.entry.specs.Exact as entry
+use Rattle.tape_frames.specs.Exact as tape-frames
+use Rattle.tape_tests.specs.Exact as tape-tests
+use Rattle.tape.specs.Exact as tape
+use Rattle.split.specs.Exact as split
+use Rattle.batches.specs.Exact as batches
+use Rattle.openings.specs.Exact as openings
+use Rattle.day_minute.specs.Exact as day-minute
+use Rattle.days.specs.Exact as days
+
+-- any two answers that the contract C allows are equal
+abbrev pub Exact : {A : Type 0} → (A → Type 0) → Type 0
+Exact {A} C = (a a′ : A) → C a → C a′ → a ≡ a′
+
+-- the same of an answer and what is lent, or of several things that are lent
+abbrev pub Exact₂ : {A B : Type 0} → (A → B → Type 0) → Type 0
+Exact₂ {A} {B} C = (a a′ : A) (b b′ : B) → C a b → C a′ b′ → (a ≡ a′) × (b ≡ b′)
+
+abbrev pub Exact₃ : {A B D : Type 0} → (A → B → D → Type 0) → Type 0
+Exact₃ {A} {B} {D} C = (a a′ : A) (b b′ : B) (d d′ : D) → C a b d → C a′ b′ d′ → (a ≡ a′) × (b ≡ b′) × (d ≡ d′)
+
+abbrev pub Exact₄ : {A B D E : Type 0} → (A → B → D → E → Type 0) → Type 0
+Exact₄ {A} {B} {D} {E} C = (a a′ : A) (b b′ : B) (d d′ : D) (e e′ : E) → C a b d e → C a′ b′ d′ e′ → (a ≡ a′) × (b ≡ b′) × (d ≡ d′) × (e ≡ e′)
+
+abbrev pub Exact₅ : {A B D E F : Type 0} → (A → B → D → E → F → Type 0) → Type 0
+Exact₅ {A} {B} {D} {E} {F} C = (a a′ : A) (b b′ : B) (d d′ : D) (e e′ : E) (f f′ : F) → C a b d e f → C a′ b′ d′ e′ f′ → (a ≡ a′) × (b ≡ b′) × (d ≡ d′) × (e ≡ e′) × (f ≡ f′)
+
+-- what is lent to a step, part by part
+parts : {A : Type 0} (C : A → Lent → Type 0) → Exact₂ C → Exact₅ (λ (r : A) (t roles : ℕ) (w v : List ℕ). C r (lent t roles w v))
+parts C x r r′ t t′ roles roles′ w w′ v v′ h h′ =
+    let e = x r r′ (lent t roles w v) (lent t′ roles′ w′ v′) h h′ in
+    (e .0, ap (λ (l : Lent). l .instant) (e .1), ap (λ (l : Lent). l .roles) (e .1), ap (λ (l : Lent). l .waiting) (e .1), ap (λ (l : Lent). l .events) (e .1))
+
+-- ---- theory
+
+-- theory::agreed_limits
+pub theory-agreed-limits : Exact (λ r. r ≡ limits)
+theory-agreed-limits = theory.agreed-limits-exact
+
+-- ---- answers
+
+-- answers::number_of
+pub answers-number-of : (name : Name) → Exact (λ r. r ≡ numberOf name)
+answers-number-of = answers.number-of-exact
+
+-- answers::answer_of
+pub answers-answer-of : (verdict : Verdict) → Exact (λ r. r ≡ answered verdict)
+answers-answer-of = answers.answer-of-exact
+
+-- ---- basic
+
+-- basic::both
+pub basic-both : (a b : Bool) → Exact (λ r. r ≡ (a && b))
+basic-both = basic.both-exact
+
+-- basic::either
+pub basic-either : (a b : Bool) → Exact (λ r. r ≡ (a || b))
+basic-either = basic.either-exact
+
+-- basic::wide
+pub basic-wide : (x : ℕ) → Exact (λ r. r ≡ x)
+basic-wide = basic.widened-exact
+
+-- basic::index
+pub basic-index : (x : ℕ) → Exact (λ r. r ≡ x)
+basic-index = basic.widened-exact
+
+-- basic::row_index
+pub basic-row-index : (row : ℕ) → Exact (λ r. r ≡ row)
+basic-row-index = basic.widened-exact
+
+-- basic::long
+pub basic-long : (x : ℕ) → Exact (λ r. r ≡ x)
+basic-long = basic.widened-exact
+
+-- basic::one
+pub basic-one : (t : Bool) → Exact (λ r. (r ≡ one t) × (r < 2))
+basic-one t r r′ h h′ = basic.one-exact t r r′ (h .0) (h′ .0)
+
+-- basic::conflict
+pub basic-conflict : (e : ℕ) → Exact (λ r. r ≡ conf e)
+basic-conflict = basic.conflict-exact
+
+-- ---- tables
+
+-- tables::agreed_sizes
+pub tables-agreed-sizes : Exact (λ r. r ≡ sizes)
+tables-agreed-sizes = tables.agreed-sizes-exact
+
+-- tables::byte
+pub tables-byte : (table : List ℕ) (i : ℕ) → Exact (λ r. r ≡ byteAt table i)
+tables-byte = tables.byte-exact
+
+-- tables::trigger_byte
+pub tables-trigger-byte : (table : List ℕ) (i k : ℕ) → Exact (λ r. r ≡ byteAt table (TRIGGER-BYTES * i + k))
+tables-trigger-byte = tables.trigger-byte-exact
+
+-- tables::copy_in
+pub tables-copy-in : (table : List ℕ) (at : ℕ) (row : List ℕ) → Exact (λ table′. table′ ≡ paste table at row (length row))
+tables-copy-in table at row = tables.copy-in-exact table row at
+
+-- ---- periodics
+
+-- periodics::periodic_row
+pub periodics-periodic-row : (table : List ℕ) (i : ℕ) → Exact (λ r. periodicOf r ≡ periodicAt table i)
+periodics-periodic-row = periodics.periodic-row-exact
+
+-- ---- triggers
+
+-- triggers::event
+pub triggers-event : (triggers : List ℕ) (i j : ℕ) → Exact (λ r. r ≡ triggerAt triggers i .event j)
+triggers-event = triggers.place-exact (λ g. g .event)
+
+-- triggers::condition
+pub triggers-condition : (triggers : List ℕ) (i j : ℕ) → Exact (λ r. r ≡ triggerAt triggers i .condition j)
+triggers-condition = triggers.place-exact (λ g. g .condition)
+
+-- ---- limits
+
+-- limits::of_roles
+pub limits-of-roles : (roles e : ℕ) → Exact (λ r. r ≡ ofRoles roles e)
+limits-of-roles = limits.of-roles-exact
+
+-- limits::periodic_fits
+pub limits-periodic-fits : (w : PeriodicRow) (roles : ℕ) → Exact (λ r. r ≡ periodicFits roles (periodicOf w))
+limits-periodic-fits = limits.periodic-fits-exact
+
+-- ---- trigger_limits
+
+-- trigger_limits::trigger_fits
+pub trigger-limits-trigger-fits : (table : List ℕ) (i roles : ℕ) → Exact (λ r. r ≡ triggerFits roles (triggerAt table i))
+trigger-limits-trigger-fits = trigger-limits.trigger-fits-exact
+
+-- ---- masks
+
+-- masks::number
+pub masks-number : (buffer : List ℕ) (i : ℕ) → Exact (λ r. r ≡ getD buffer i 0)
+masks-number = masks.number-exact
+
+-- masks::has
+pub masks-has : (mask p : ℕ) → Exact (λ r. r ≡ bit mask p)
+masks-has = masks.has-exact
+
+-- masks::join
+pub masks-join : (buffer : List ℕ) (at p : ℕ) → Exact (λ buffer′. buffer′ ≡ joinedAt buffer at p)
+masks-join = masks.join-exact
+
+-- masks::join_where
+pub masks-join-where : (buffer : List ℕ) (on : Bool) (at p : ℕ) → Exact (λ buffer′. buffer′ ≡ joinedWhere buffer (record { on = on; at = at; priority = p }))
+masks-join-where buffer on at p = masks.join-where-exact buffer (record { on = on; at = at; priority = p })
+
+-- masks::store
+pub masks-store : (buffer : List ℕ) (at v : ℕ) → Exact (λ buffer′. buffer′ ≡ set buffer at v)
+masks-store = masks.store-exact
+
+-- ---- live
+
+-- live::live
+pub live-live : (events : List ℕ) (e : ℕ) → Exact (λ r. r ≡ nonblocked (eventsOf events) (eventsOf events) e)
+live-live = live.live-exact
+
+-- ---- roles
+
+-- roles::role_on
+pub roles-role-on : (roles r : ℕ) → Exact (λ on. on ≡ bit roles r)
+roles-role-on = roles.role-on-exact
+
+-- roles::with_role
+pub roles-with-role : (roles r : ℕ) (on : Bool) → Exact (λ s. s ≡ withRole roles r on)
+roles-with-role = roles.with-role-exact
+
+-- ---- bodies
+
+-- bodies::allows
+pub bodies-allows : (triggers : List ℕ) (i roles : ℕ) → Exact (λ r. r ≡ allows (rolesOf roles) (triggerAt triggers i))
+bodies-allows = bodies.allows-exact
+
+-- bodies::met
+pub bodies-met : (events triggers : List ℕ) (i : ℕ) → Exact (λ r. r ≡ met (eventsOf events) (eventsOf events) (triggerAt triggers i))
+bodies-met = bodies.met-exact
+
+-- ---- due
+
+-- due::add_due
+pub due-add-due : (events periodics : List ℕ) (n t : ℕ) → Exact (λ events′. events′ ≡ joins events n (dueAt periodics t))
+due-add-due = due.add-due-exact
+
+-- ---- solver
+
+-- solver::solve
+pub solver-solve : (events levels triggers : List ℕ) (n roles : ℕ) → (roleCount periodicCount : ℕ) (periodics : List ℕ) → length events ≡ EVENTS → GoodOrder (sheetOf roleCount periodicCount n periodics triggers) → Levels (sheetOf roleCount periodicCount n periodics triggers) (byteAt levels)
+    → Exact (λ events′. Solved levels triggers n roles events events′)
+solver-solve events levels triggers n roles roleCount periodicCount periodics size good rule events′ other = solver.solve-exact levels triggers n roles events events′ other roleCount periodicCount periodics size good rule
+
+-- ---- waiting
+
+-- waiting::place
+pub waiting-place : (t d e : ℕ) → Exact (λ r. r ≡ placeOf (t + d) e)
+waiting-place = Waiting.place-exact
+
+-- waiting::copy_row
+pub waiting-copy-row : (events waiting : List ℕ) (t : ℕ) → Exact (λ events′. events′ ≡ copied events waiting t)
+waiting-copy-row = Waiting.copy-row-exact
+
+-- waiting::clear_row
+pub waiting-clear-row : (waiting : List ℕ) (t : ℕ) → Exact (λ waiting′. waiting′ ≡ cleared waiting t)
+waiting-clear-row = Waiting.clear-row-exact
+
+-- waiting::wait_triggers
+pub waiting-wait-triggers : (waiting events triggers : List ℕ) (n roles t : ℕ)
+    → Exact (λ waiting′. waiting′ ≡ joins waiting n (λ i. triggerEntry (rolesOf roles) (eventsOf events) t (triggerAt triggers i)))
+waiting-wait-triggers waiting events triggers n roles t = Waiting.wait-triggers-exact waiting triggers n t (rolesOf roles) (eventsOf events)
+
+-- ---- after
+
+-- after::roles_after
+pub after-roles-after : (roles : ℕ) (events : List ℕ) → Exact (λ r. r ≡ rolesBelow (rolesOf roles) (eventsOf events) ROLES)
+after-roles-after roles events = After.roles-after-exact (rolesOf roles) (eventsOf events)
+
+-- after::count
+pub after-count : (events : List ℕ) → Exact (λ r. r ≡ countBelow EVENTS (nonblocked (eventsOf events) (eventsOf events)))
+after-count events = After.count-exact (eventsOf events)
+
+-- ---- rows
+
+-- rows::reaches
+pub rows-reaches : (row : Row) (b : ℕ) → Exact (λ r. r ≡ reaches row b)
+rows-reaches = Rows.reaches-exact
+
+-- rows::with
+pub rows-with : (row : Row) (b : ℕ) (on : Bool) → whole row → Exact (λ row′. ((f : ℕ → Bool) → RowIs f row → RowIs (λ x. f x || (on && eqb b x)) row′))
+rows-with row b on h r r′ = Rows.with-exact row b on r r′ h
+
+-- rows::joined
+pub rows-joined : (x y : Row) → whole x → whole y → Exact (λ r. ((f g : ℕ → Bool) → RowIs f x → RowIs g y → RowIs (λ b. f b || g b) r))
+rows-joined x y h k r r′ = Rows.joined-exact x y r r′ h k
+
+-- rows::leads
+pub rows-leads : (rows : List Row) (a b : ℕ) → Exact (λ r. r ≡ edgesOf rows a b)
+rows-leads = Rows.leads-exact
+
+-- rows::link
+pub rows-link : (rows : List Row) (a b : ℕ) (on : Bool) → wholeRows rows → Exact (λ rows′. Become (linked on a b) rows rows′)
+rows-link rows a b on h r r′ = Rows.link-exact rows a b on r r′ h
+
+-- ---- reach
+
+-- reach::closed
+pub reach-closed : (edges : List Row) → wholeRows edges → Exact (λ r. Become (λ E. through E EVENTS) edges r)
+reach-closed edges h r r′ = reach.closed-exact edges r r′ h
+
+-- ---- edges
+
+-- edges::nodes
+pub edges-nodes : (triggers : List ℕ) (n : ℕ) → Exact (λ r. RowIs (node (triggersOf n triggers)) r)
+edges-nodes triggers n = edges.nodes-exact (triggersOf n triggers)
+
+-- edges::drawn
+pub edges-drawn : (given : List Row) (triggers : List ℕ) (n : ℕ) (heads : Row) (negative : Bool) → wholeRows given → Exact (λ r. Become (addedFrom heads (drawsBelow (tailOf negative) (triggersOf n triggers) n)) given r)
+edges-drawn given triggers n heads negative h r r′ = edges.drawn-exact (triggersOf n triggers) n heads negative given r r′ h
+
+-- ---- loops
+
+-- loops::loop_test
+pub loops-loop-test : (triggers : List ℕ) (n : ℕ) → Exact (λ r. r ≡ tested (triggersOf n triggers))
+loops-loop-test = loops.loop-test-exact
+
+-- ---- row_judge
+
+-- row_judge::rows_judged
+pub row-judge-rows-judged : (roles p t : ℕ) (periodics triggers : List ℕ) → Exact (λ r. r ≡ judgeRows (sheetOf roles p t periodics triggers))
+row-judge-rows-judged = row-judge.rows-judged-exact
+
+-- ---- judge
+
+-- judge::loop_verdict
+pub judge-loop-verdict : (found : Found) → Exact (λ r. r ≡ loopVerdict found)
+judge-loop-verdict = judge.loop-verdict-exact
+
+-- judge::judge
+pub judge-judge : (roles «periodic_count» «trigger_count» : ℕ) (periodics triggers : List ℕ)
+    → Exact (λ r. r ≡ judged (sheetOf roles «periodic_count» «trigger_count» periodics triggers))
+judge-judge = judge.judge-exact
+
+-- ---- text
+
+-- text::line_end
+pub text-line-end : (text : List ℕ) (at : ℕ) → Exact (λ r. r ≡ at + span (drop at text))
+text-line-end = text.line-end-exact
+
+-- text::is_framed
+pub text-is-framed : (line : List ℕ) → Exact (λ r. r ≡ framed line)
+text-is-framed = text.is-framed-exact
+
+-- ---- frames
+
+-- frames::byte_at
+pub frames-byte-at : (line : List ℕ) (i : ℕ) → Exact (λ r. r ≡ getD (bytesOf line) i 0)
+frames-byte-at = frames.byte-at-exact
+
+-- frames::count
+pub frames-count : (line : List ℕ) → Exact (λ r. r ≡ length (bytesOf line))
+frames-count = frames.count-exact
+
+-- frames::is_checked
+pub frames-is-checked : (line : List ℕ) → Exact (λ r. r ≡ checked (bytesOf line))
+frames-is-checked = frames.is-checked-exact
+
+-- ---- printed_frames
+
+-- printed_frames::minute_frame
+pub printed-frames-minute-frame : (instant roles count : ℕ) → Exact (λ r. r ≡ minuteFrame instant roles count)
+printed-frames-minute-frame = printed-frames.minute-frame-exact
+
+-- printed_frames::refusal_frame
+pub printed-frames-refusal-frame : (number place : ℕ) → Exact (λ r. r ≡ refusalFrame number place)
+printed-frames-refusal-frame = printed-frames.refusal-frame-exact
+
+-- ---- prints
+
+-- prints::put_line
+pub prints-put-line : (out : List ℕ) (at : ℕ) (frame : List ℕ) → Exact (λ out′. out′ ≡ paste out at (lineOf frame) (length (lineOf frame)))
+prints-put-line out at frame = prints.put-line-exact out frame at
+
+-- ---- periodic_frames
+
+-- periodic_frames::periodic_row
+pub periodic-frames-periodic-row : (line : List ℕ) → Exact (λ r. r ≡ periodicRow (bytesOf line))
+periodic-frames-periodic-row = periodic-frames.periodic-row-exact
+
+-- ---- trigger_frames
+
+-- trigger_frames::trigger_row
+pub trigger-frames-trigger-row : (line : List ℕ) → Exact (λ r. r ≡ triggerRow (bytesOf line))
+trigger-frames-trigger-row = trigger-frames.trigger-row-exact
+
+-- ---- kinds
+
+-- kinds::is_kind
+pub kinds-is-kind : (line : List ℕ) (stage : Stage) (k : ℕ) → Exact (λ r. r ≡ (sized (bytesOf line) && mayStand stage k))
+kinds-is-kind = kinds.is-kind-exact
+
+-- ---- row_counts
+
+-- row_counts::has_room
+pub row-counts-has-room : (k periodics triggers : ℕ) → Exact (λ r. r ≡ roomFor k periodics triggers)
+row-counts-has-room = row-counts.has-room-exact
+
+-- row_counts::end_agrees
+pub row-counts-end-agrees : (line : List ℕ) (k periodics triggers : ℕ) → Exact (λ r. r ≡ countsAgree k (byteAt (bytesOf line) 1) (two (bytesOf line) 2) periodics triggers)
+row-counts-end-agrees = row-counts.end-agrees-exact
+
+-- ---- fields
+
+-- fields::frame_fits
+pub fields-frame-fits : (k roles : ℕ) (line : List ℕ) → Exact (λ r. r ≡ frameFits k roles (bytesOf line))
+fields-frame-fits = fields.frame-fits-exact
+
+-- ---- line_tests
+
+-- line_tests::line_judged
+pub line-tests-line-judged : (line : List ℕ) (s : Seen) (place : ℕ) → Exact (λ r. r ≡ judgeLine place s line)
+line-tests-line-judged = line-tests.line-judged-exact
+
+-- ---- line_acts
+
+-- line_acts::act
+pub line-acts-act : (line : List ℕ) (s : Seen) (periodics triggers : List ℕ)
+    → Exact₃ (λ r periodics′ triggers′. state r periodics′ triggers′ ≡ after (state s periodics triggers) (bytesOf line))
+line-acts-act = line-acts.act-exact
+
+-- ---- lines
+
+-- lines::read_lines
+pub lines-read-lines : (sheet periodics triggers : List ℕ) (r r₂ : Taken) (periodics′ periodics₂ triggers′ triggers₂ : List ℕ)
+    → Took.took r periodics′ triggers′ ≡ reads (goes (state fresh periodics triggers)) (lines sheet) → Took.took r₂ periodics₂ triggers₂ ≡ reads (goes (state fresh periodics triggers)) (lines sheet)
+    → Same r r₂ periodics′ periodics₂ triggers′ triggers₂
+lines-read-lines = Lines.read-lines-exact
+
+-- ---- readings
+
+-- readings::verdict_of
+pub readings-verdict-of : (reading : Reading) → Exact (λ r. r ≡ verdictOf reading)
+readings-verdict-of = readings.verdict-of-exact
+
+-- ---- hand_out
+
+-- hand_out::hand_out
+pub hand-out-hand-out : (s : Seen) (per trg periodics triggers : List ℕ)
+    → Exact₃ (λ r periodics′ triggers′. outcome r periodics′ triggers′ ≡ afterLines (state s per trg) periodics triggers)
+hand-out-hand-out s per trg = hand-out.hand-out-exact (state s per trg)
+
+-- ---- sheet
+
+-- sheet::read_sheet
+pub sheet-read-sheet : (sheet periodics triggers : List ℕ) → Exact₃ (λ r periodics′ triggers′. outcome r periodics′ triggers′ ≡ reading sheet periodics triggers)
+sheet-read-sheet = sheet.read-sheet-exact
+
+-- ---- requests
+
+-- requests::request_at
+pub requests-request-at : (asked : List ℕ) (k : ℕ) → Exact (λ r. requestOf r ≡ requestAt asked k)
+requests-request-at = requests.request-at-exact
+
+-- requests::request_fits
+pub requests-request-fits : (roles : ℕ) (r : Request) → Exact (λ t. t ≡ fits roles (requestOf r))
+requests-request-fits = requests.request-fits-exact
+
+-- requests::judge_requests
+pub requests-judge-requests : (roles : ℕ) (asked : List ℕ) (n : ℕ) → Exact (λ r. r ≡ judgeRequests roles (flat asked n))
+requests-judge-requests = requests.judge-requests-exact
+
+-- ---- asked
+
+-- asked::add_asked
+pub asked-add-asked : (events asked : List ℕ) (n : ℕ) → Exact (λ events′. events′ ≡ joins events n (λ k. givenEntry (requestAt asked k)))
+asked-add-asked = asked.add-asked-exact
+
+-- asked::wait_asked
+pub asked-wait-asked : (waiting asked : List ℕ) (n t : ℕ) → Exact (λ waiting′. waiting′ ≡ joins waiting n (λ k. waitEntry t (requestAt asked k)))
+asked-wait-asked = asked.wait-asked-exact
+
+-- ---- order
+
+-- order::judge_first
+pub order-judge-first : (periodics triggers waiting events t n : ℕ) → Exact (λ r. r ≡ judgeFirst (exactLengths periodics triggers waiting events) t n)
+order-judge-first = order.judge-first-exact
+
+-- ---- minute
+
+-- minute::act
+pub minute-act : («periodic_count» «trigger_count» : ℕ) (periodics triggers asked : List ℕ) (m : ℕ) (levels : List ℕ) (instant enabled : ℕ) (waiting events : List ℕ) → (roleCount : ℕ) → length events ≡ EVENTS → GoodOrder (sheetOf roleCount «periodic_count» «trigger_count» periodics triggers) → Levels (sheetOf roleCount «periodic_count» «trigger_count» periodics triggers) (byteAt levels)
+    → Exact₄ (λ instant′ enabled′ waiting′ events′. Acted «periodic_count» «trigger_count» periodics triggers (flat asked m) levels instant enabled waiting events instant′ enabled′ waiting′ events′)
+minute-act «periodic_count» «trigger_count» periodics triggers asked m levels instant enabled waiting events roleCount = minute.act-exact roleCount «periodic_count» «trigger_count» periodics triggers (flat asked m) levels instant enabled waiting events
+
+-- ---- step
+
+-- step::step
+pub step-step : (roles «periodic_count» «trigger_count» : ℕ) (periodics triggers asked : List ℕ) (n instant enabled : ℕ) (waiting events : List ℕ)
+    → Exact₅ (λ r instant′ enabled′ waiting′ events′. Outcome (rules roles «periodic_count» «trigger_count» periodics triggers) (flat asked n) (lent instant enabled waiting events) r (lent instant′ enabled′ waiting′ events′))
+step-step roles «periodic_count» «trigger_count» periodics triggers asked n instant enabled waiting events = parts _ (Step.step-exact (rules roles «periodic_count» «trigger_count» periodics triggers) (flat asked n) (lent instant enabled waiting events))
+
+-- ---- entry
+
+-- entry::step_requests
+pub entry-step-requests : (roles «periodic_count» «trigger_count» : ℕ) (periodics triggers : List ℕ) (requests : List Request) (instant enabled : ℕ) (waiting events : List ℕ)
+    → Exact₅ (λ r instant′ enabled′ waiting′ events′. Outcome (rules roles «periodic_count» «trigger_count» periodics triggers) (listed requests) (lent instant enabled waiting events) r (lent instant′ enabled′ waiting′ events′))
+entry-step-requests roles «periodic_count» «trigger_count» periodics triggers requests instant enabled waiting events = parts _ (entry.step-requests-exact (rules roles «periodic_count» «trigger_count» periodics triggers) requests (lent instant enabled waiting events))
+
+-- ---- tape_frames
+
+-- tape_frames::instant_of
+pub tape-frames-instant-of : (line : List ℕ) → Exact (λ r. r ≡ instantOf (bytesOf line))
+tape-frames-instant-of = tape-frames.instant-of-exact
+
+-- tape_frames::asked_in
+pub tape-frames-asked-in : (line : List ℕ) → Exact (λ r. requestOf r ≡ askedIn (bytesOf line))
+tape-frames-asked-in = tape-frames.asked-in-exact
+
+-- ---- tape_tests
+
+-- tape_tests::tape_judged
+pub tape-tests-tape-judged : (line : List ℕ) (roles : ℕ) (s : Heard) (place : ℕ) → Exact (λ r. r ≡ judgeTape place roles s line)
+tape-tests-tape-judged line roles s place = tape-tests.tape-judged-exact line roles place s
+
+-- ---- tape
+
+-- tape::read_tape
+pub tape-read-tape : (tape : List ℕ) (roles before : ℕ) → Exact (λ r. took r ≡ tapeRead roles before tape)
+tape-read-tape = tape.read-tape-exact
+
+-- ---- split
+
+-- split::split
+pub split-split : (input : List ℕ) → Exact (λ r. (r ≡ parted 0 0 (lines input)) × ((r .bytes ≤ length input) × (r .lines ≤ length input)))
+split-split input r r′ h h′ = split.split-exact input r r′ (h .0) (h′ .0)
+
+-- ---- batches
+
+-- batches::take_batch
+pub batches-take-batch : (tape : List ℕ) (at t : ℕ)
+    → Exact (λ r. (r ≡ takes t (lines (drop at tape)) (noneYet at)) × (lines (drop (r .next) tape) ≡ rest t (lines (drop at tape)) 0))
+batches-take-batch tape at t r r′ h h′ = batches.take-batch-exact tape at t r r′ (h .0) (h′ .0)
+
+-- ---- openings
+
+-- openings::open
+pub openings-open : (input : List ℕ) → Exact₃ (λ r periodics′ triggers′. opened r periodics′ triggers′ ≡ planned input)
+openings-open = openings.open-exact
+
+-- ---- day_minute
+
+-- day_minute::day_minute
+pub day-minute-day-minute : (roles «periodic_count» «trigger_count» : ℕ) (periodics triggers tape : List ℕ) (at instant enabled : ℕ) (waiting events : List ℕ)
+    → Exact₅ (λ r instant′ enabled′ waiting′ events′. MinuteOutcome (rules roles «periodic_count» «trigger_count» periodics triggers) tape at (lent instant enabled waiting events) r (lent instant′ enabled′ waiting′ events′))
+day-minute-day-minute roles «periodic_count» «trigger_count» periodics triggers tape at instant enabled waiting events = parts _ (day-minute.day-minute-exact (rules roles «periodic_count» «trigger_count» periodics triggers) tape at (lent instant enabled waiting events))
+
+-- ---- days
+
+-- days::day
+pub days-day : (input out : List ℕ) → Exact₂ (λ r out′. DayOutcome input out r out′)
+days-day = days.day-exact
+
+-- ==== WHAT SOME ASK. These are public only because a crate ends there: each asks something of its callers, the functions named, which have shown it. Each is exact as it stands above,
+-- whatever it is called with. Whoever uses the box calls sheet::read_sheet, step::step, entry::step_requests or days::day, which ask nothing.
+-- tables::copy_in asks that the row fits: line_acts::put_row, hand_out::copy_out.
+-- prints::put_line asks that the line fits: days::run, days::print_refusal.
+-- keys::chains asks for at most 256 triggers: solver::by_keys.
+-- keys::next asks for a key below 257: solver::by_keys.
+-- turns::settle asks for an events buffer of 128 numbers, a key that is not 0, and chained triggers: solver::by_keys.
+-- line_acts::act asks for room for the frame's row and for tables of their lengths: lines::take, once the line's tests passed.
+-- lines::read_lines asks for lengths that LENGTH has tested: sheet::read_within.
+-- hand_out::hand_out asks for two pairs of tables of the same lengths: sheet::read_within.
+-- minute::act asks for an instant that is not above the last: step::step_within, once LAST was tested.
+-- tape::read_tape asks for at most 65,536 bytes, and as many lines before them: openings::open_tape, once LENGTH was tested.
+-- openings::open asks for tables of zeros: days::print_day.
+
+-- ==== EXCEPTIONS: contracts that leave something open, and why.
+-- solver::solve has one content where the rows are in good order and the levels meet the rule, as above. Elsewhere it promises the buffer's length alone. minute::act alone calls it, for what the
+-- judge has passed: a refusal of its own would be a second judge.
+-- minute::act likewise is exact where the solver is. step::step_within alone calls it, after the judge.
+-- lines::read_lines has one answer, and one content of its two tables where the lines go on to their end, as above. After a refusal it says nothing of them: they are the
+-- reader's own, and sheet::read_within, its one caller, drops them.
+-- keys::chains leaves its places past the triggers open: solver::by_keys, its one caller, does not look there.
+-- keys::next may give any number up to the next key: all that solver::by_keys, its one caller, needs is that it leaves none out.
+-- turns::settle says what it keeps and that nothing is left to add: the solver's proof needs no more, and from it has one solution. solver::by_keys alone calls it.

@@ -1,0 +1,59 @@
+-- The numbers of the refusals: 1 to 10, each of exactly one.
+-- Assumes nothing.
+use mathlib.Core.Path.{_≡_, refl, sym, ap, _∙_}
+use mathlib.Core.List.{List, [], _∷_}
+use Prim.Native.Nat.{ℕ, _+_, _-_, _≤_}
+use native.Mathlib.Omega.{arith}
+use lib.Dec.{eqb}
+use lib.ListN.{getD}
+use borrow.Author.Tests.{eqb-true}
+use Rattle.theory.specs.Below.{allBelow}
+use Rattle.theory.specs.Laws.Below.{all-elim}
+use Rattle.answers.specs.declared.Name.{Name}
+use Rattle.answers.specs.declared.Name.the-variants.{Length, Frame, Check, Kind, Field, TooMany, Count, Loop, Request, Last}
+use Rattle.answers.specs.Answers.{numberOf}
+
+-- the number of a refusal is 1 to 10
+pub some-number : (name : Name) → (1 ≤ numberOf name) × (numberOf name ≤ 10)
+some-number Length = (omega arith, omega arith)
+some-number Frame = (omega arith, omega arith)
+some-number Check = (omega arith, omega arith)
+some-number Kind = (omega arith, omega arith)
+some-number Field = (omega arith, omega arith)
+some-number TooMany = (omega arith, omega arith)
+some-number Count = (omega arith, omega arith)
+some-number Loop = (omega arith, omega arith)
+some-number Request = (omega arith, omega arith)
+some-number Last = (omega arith, omega arith)
+
+-- the refusals in the order of their numbers
+abbrev names : List Name
+names = Length ∷ Frame ∷ Check ∷ Kind ∷ Field ∷ TooMany ∷ Count ∷ Loop ∷ Request ∷ Last ∷ []
+
+-- refusal number n + 1
+abbrev nameAt : ℕ → Name
+nameAt n = getD names n Length
+
+name-again : (name : Name) → nameAt (numberOf name - 1) ≡ name
+name-again Length = refl
+name-again Frame = refl
+name-again Check = refl
+name-again Kind = refl
+name-again Field = refl
+name-again TooMany = refl
+name-again Count = refl
+name-again Loop = refl
+name-again Request = refl
+name-again Last = refl
+
+-- no two refusals have one number
+pub number-once : (a b : Name) → numberOf a ≡ numberOf b → a ≡ b
+number-once a b e = sym (name-again a) ∙ (ap (λ (n : ℕ). nameAt (n - 1)) e ∙ name-again b)
+
+-- every number is of one
+pub number-each : (n : ℕ) → 1 ≤ n → n ≤ 10 → (name : Name) × (numberOf name ≡ n)
+unfolding allBelow
+number-each n l m =
+    let k : ℕ = n - 1 in
+    let e : numberOf (nameAt k) ≡ k + 1 = eqb-true (numberOf (nameAt k)) (k + 1) (all-elim 10 (λ j. eqb (numberOf (nameAt j)) (j + 1)) refl k (omega arith)) in
+    (nameAt k, omega (arith, e))

@@ -1,0 +1,218 @@
+-- The reader is exact on loops. A sheet that reads in good order is refused with LOOP at the place of its loop, or accepted where it has none; and no other sheet is either,
+-- for no test of a line gives LOOP.
+-- Assumes nothing.
+use mathlib.Core.Path.{_≡_, refl, sym, ap, _∙_, subst}
+use mathlib.Core.Logic.{_⊎_, inl, inr, ⊎-elim, _↔_}
+use mathlib.Core.Bool.{Bool, true, false, cond, _&&_}
+use mathlib.Core.List.{List}
+use Prim.Native.Nat.{ℕ, _+_, _<_}
+use native.Mathlib.Omega.{arith}
+use lib.ListN.{length}
+use borrow.Author.Tests.{lt-ltb, le-ltb}
+use Rattle.theory.specs.Sheet.{GoodOrder}
+use Rattle.theory.specs.Graph.{NoLoop, LoopAt}
+use Rattle.theory.specs.LoopTest.{PAIRS, loopPlace}
+use Rattle.theory.specs.Laws.Tests.{test}
+use Rattle.theory.specs.Laws.Loop.{loop-or, loop-not, loop-one}
+use Rattle.theory.specs.Laws.OneSolution.{good-heads}
+use Rattle.answers.specs.declared.Name.{Name}
+use Rattle.answers.specs.declared.Name.the-variants.{Length, Frame, Check, Kind, Field, TooMany, Count, Loop}
+use Rattle.answers.specs.declared.Refusal.{Refusal}
+use Rattle.answers.specs.declared.Verdict.{Verdict}
+use Rattle.answers.specs.declared.Verdict.the-variants.{Pass, Refuse}
+use Rattle.answers.specs.Answers.{numberOf, answered, refuse}
+use Rattle.text.specs.Lines.{Lines, none, endless, line, lines}
+use Rattle.text.specs.Framed.{framed}
+use Rattle.frames.specs.Frame.{bytesOf, checked}
+use Rattle.tables.specs.Layout.{byteAt, two}
+use Rattle.walks.specs.Walks.{Going, goes, refused, byVerdict, walks}
+use Rattle.kinds.specs.declared.Stage.{Stage}
+use Rattle.kinds.specs.declared.Stage.the-variants.{Start, Rows, Ended}
+use Rattle.kinds.specs.Kinds.{kind, sized, mayStand}
+use Rattle.row_counts.specs.Counts.{roomFor, countsAgree}
+use Rattle.fields.specs.Fields.{frameFits}
+use Rattle.line_tests.specs.declared.Seen.{Seen}
+use Rattle.line_tests.specs.Judge.{inOrder, judgeFrame, judgeLine}
+use Rattle.line_acts.specs.Acts.{State, after}
+use Rattle.lines.specs.Line.{lineStep}
+use Rattle.lines.specs.Lines.{atEnd, reads}
+use Rattle.readings.specs.declared.Read.{Read}
+use Rattle.readings.specs.declared.Reading.{Reading}
+use Rattle.readings.specs.declared.Reading.the-variants.{Good, Bad}
+use Rattle.readings.specs.Readings.{verdictOf}
+use Rattle.hand_out.specs.Out.{Outcome, outcome, sheetRead, handed, byLoop, afterLines}
+use Rattle.sheet.specs.Sheet.{start, byStep, lengthsFit, reading}
+use Rattle.accepted.specs.Accepted.{start-so-far}
+use Rattle.accepted.specs.Laws.Lines.{read-so-far}
+use Rattle.claims.specs.Words.{InOrder}
+use Rattle.claims.specs.Laws.Numbers.{some-number}
+
+-- ---- no test of a line gives LOOP
+
+-- a verdict is not LOOP
+abbrev NotLoop : Verdict → Type 0
+NotLoop v = answered v .number ≡ 8 → ⊥
+
+test-not : (b : Bool) (v : Verdict) (name : Name) (place : ℕ) → NotLoop v → (numberOf name ≡ 8 → ⊥) → NotLoop (cond b v (refuse name place))
+test-not true v name place h n = h
+test-not false v name place h n = n
+
+line-not : (place : ℕ) (s : Seen) (l : List ℕ) → NotLoop (judgeLine place s l)
+unfolding judgeLine judgeFrame inOrder
+line-not place s l =
+    let f : List ℕ = bytesOf l in
+    test-not (framed l) _ Frame place
+    (test-not (checked f) _ Check place
+    (test-not (sized f && mayStand (s .stage) (kind f)) _ Kind place
+    (test-not (roomFor (kind f) (s .periodics) (s .triggers)) _ TooMany place
+    (test-not (frameFits (kind f) (s .roles) f) _ Field place
+    (test-not (countsAgree (kind f) (byteAt f 1) (two f 2) (s .periodics) (s .triggers)) Pass Count place (λ e. omega (arith, e)) (λ e. omega (arith, e)))
+    (λ e. omega (arith, e)))
+    (λ e. omega (arith, e)))
+    (λ e. omega (arith, e)))
+    (λ e. omega (arith, e)))
+    (λ e. omega (arith, e))
+
+-- what goes on, or its refusal, as a verdict
+abbrev verdictIn : Going State → Verdict
+verdictIn (goes s) = Pass
+verdictIn (refused r) = Refuse r
+
+by-verdict : (v : Verdict) (made : State) → NotLoop v → NotLoop (verdictIn (byVerdict v made))
+unfolding byVerdict
+by-verdict Pass made h = h
+by-verdict (Refuse r) made h = h
+
+end-not : (g : Stage) (s : State) → NotLoop (verdictIn (atEnd g s))
+unfolding atEnd
+end-not Start s e = omega (arith, e)
+end-not Rows s e = omega (arith, e)
+end-not Ended s e = omega (arith, e)
+
+reads-not : (x : Going State) (ls : Lines) → NotLoop (verdictIn x) → NotLoop (verdictIn (reads x ls))
+unfolding walks lineStep
+reads-not (refused r) none h = h
+reads-not (refused r) (endless l) h = h
+reads-not (refused r) (line l ls) h = h
+reads-not (goes s) none h = end-not (s .seen .stage) s
+reads-not (goes s) (endless l) h = λ e. omega (arith, e)
+reads-not (goes s) (line l ls) h = reads-not (lineStep s l) ls (by-verdict (judgeLine (s .seen .line + 1) (s .seen) l) (after s (bytesOf l)) (line-not (s .seen .line + 1) (s .seen) l))
+
+-- ---- a sheet reads in good order, or is refused for something else
+
+-- the number of a reader's answer
+abbrev numberIn : Outcome → ℕ
+numberIn o = answered (verdictOf (o .answer)) .number
+
+-- what passed every line is in good order
+pub order-good : (sheet p t : List ℕ) (s : State) → InOrder sheet p t s → GoodOrder (sheetRead s)
+order-good sheet p t s o = read-so-far s start (lines sheet) start-so-far (o .to-its-end) .1
+
+module _ (sheet p t : List ℕ) where
+  -- after the last line LOOP alone is tested
+  after-order : (s : State) → InOrder sheet p t s → reading sheet p t ≡ afterLines s p t
+  unfolding reading byStep
+  after-order s o = rw (o .lengths, o .to-its-end) refl
+
+  by-reads : lengthsFit (length sheet) (length p) (length t) ≡ true → (x : Going State) → reads (goes start) (lines sheet) ≡ x → NotLoop (verdictIn x)
+      → ((s : State) × InOrder sheet p t s) ⊎ ((r : Refusal) × (reading sheet p t ≡ outcome (Bad r) p t) × NotLoop (Refuse r))
+  unfolding reading byStep
+  by-reads l (goes s) e h = inl (s, record { lengths = l; to-its-end = e })
+  by-reads l (refused r) e h = inr (r, rw (l, e) refl, h)
+
+  order-cases : ((s : State) × InOrder sheet p t s) ⊎ ((r : Refusal) × (reading sheet p t ≡ outcome (Bad r) p t) × NotLoop (Refuse r))
+  unfolding reading
+  order-cases =
+      ⊎-elim
+      (λ (l : lengthsFit (length sheet) (length p) (length t) ≡ true).
+      by-reads l (reads (goes start) (lines sheet)) refl (reads-not (goes start) (lines sheet) (λ e. omega (arith, e))))
+      (λ (l : lengthsFit (length sheet) (length p) (length t) ≡ false). inr (record { name = Length; place = 0 }, rw l refl, λ e. omega (arith, e)))
+      (test (lengthsFit (length sheet) (length p) (length t)))
+
+  -- ---- and then it has a loop at a place, or none
+
+  -- the refusal with LOOP
+  abbrev loopAt : ℕ → Reading
+  loopAt k = Bad (record { name = Loop; place = k })
+
+  module _ (s : State) (o : InOrder sheet p t s) where
+    refuses-loop : (k : ℕ) → LoopAt (sheetRead s) k → reading sheet p t ≡ outcome (loopAt k) p t
+    unfolding byLoop
+    refuses-loop k l =
+        ⊎-elim
+        (λ (x : (loopPlace (sheetRead s) ≡ PAIRS) × NoLoop (sheetRead s)). absurd (loop-not (sheetRead s) k l (x .1)))
+        (λ (y : (loopPlace (sheetRead s) < PAIRS) × LoopAt (sheetRead s) (loopPlace (sheetRead s))).
+        let e : loopPlace (sheetRead s) ≡ k = loop-one (sheetRead s) (loopPlace (sheetRead s)) k (y .1) l in
+        after-order s o ∙ rw (lt-ltb (loopPlace (sheetRead s)) PAIRS (y .0)) (ap (λ (x : ℕ). outcome (loopAt x) p t) e))
+        (loop-or (sheetRead s) (good-heads (sheetRead s) (order-good sheet p t s o)))
+
+    accepts-none : NoLoop (sheetRead s) → reading sheet p t ≡ outcome (Good (handed (s .seen))) (s .periodic) (s .triggers)
+    unfolding byLoop
+    accepts-none nl =
+        ⊎-elim
+        (λ (x : (loopPlace (sheetRead s) ≡ PAIRS) × NoLoop (sheetRead s)). after-order s o ∙ rw (le-ltb (loopPlace (sheetRead s)) PAIRS (omega (arith, x .0))) refl)
+        (λ (y : (loopPlace (sheetRead s) < PAIRS) × LoopAt (sheetRead s) (loopPlace (sheetRead s))). absurd (loop-not (sheetRead s) _ (y .1) nl))
+        (loop-or (sheetRead s) (good-heads (sheetRead s) (order-good sheet p t s o)))
+
+    loop-or-none : ((k : ℕ) × LoopAt (sheetRead s) k) ⊎ NoLoop (sheetRead s)
+    loop-or-none =
+        ⊎-elim
+        (λ (x : (loopPlace (sheetRead s) ≡ PAIRS) × NoLoop (sheetRead s)). inr (x .1))
+        (λ (y : (loopPlace (sheetRead s) < PAIRS) × LoopAt (sheetRead s) (loopPlace (sheetRead s))). inl (loopPlace (sheetRead s), y .1))
+        (loop-or (sheetRead s) (good-heads (sheetRead s) (order-good sheet p t s o)))
+
+  -- THE THEOREM: LOOP at k exactly where the sheet reads in good order and has its loop at k
+  pub reader-loops : (k : ℕ) → (reading sheet p t ≡ outcome (loopAt k) p t) ↔ ((s : State) × InOrder sheet p t s × LoopAt (sheetRead s) k)
+  reader-loops k = (
+    (λ h.
+        ⊎-elim
+        (λ (x : (s : State) × InOrder sheet p t s).
+        ⊎-elim
+        (λ (l : (j : ℕ) × LoopAt (sheetRead (x .0)) j).
+        let e : outcome (loopAt (l .0)) p t ≡ outcome (loopAt k) p t = sym (refuses-loop (x .0) (x .1) (l .0) (l .1)) ∙ h in
+        let j : l .0 ≡ k = ap (λ (o : Outcome). answered (verdictOf (o .answer)) .place) e in
+        (x .0, x .1, subst (LoopAt (sheetRead (x .0))) j (l .1)))
+        (λ (n : NoLoop (sheetRead (x .0))).
+        let e : 0 ≡ 8 = ap numberIn (sym (accepts-none (x .0) (x .1) n) ∙ h) in
+        absurd (omega arith))
+        (loop-or-none (x .0) (x .1)))
+        (λ (y : (r : Refusal) × (reading sheet p t ≡ outcome (Bad r) p t) × NotLoop (Refuse r)). absurd (y .2 (ap numberIn (sym (y .1) ∙ h))))
+        order-cases),
+    (λ x. refuses-loop (x .0) (x .1) k (x .2)),
+  )
+
+  -- and OK exactly where it reads in good order and has none: then the tables hold what was read
+  pub reader-accepts : (r : Read) (p′ t′ : List ℕ) → (reading sheet p t ≡ outcome (Good r) p′ t′)
+      ↔ ((s : State) × InOrder sheet p t s × NoLoop (sheetRead s) × (outcome (Good (handed (s .seen))) (s .periodic) (s .triggers) ≡ outcome (Good r) p′ t′))
+  reader-accepts r p′ t′ = (
+    (λ h.
+        ⊎-elim
+        (λ (x : (s : State) × InOrder sheet p t s).
+        ⊎-elim
+        (λ (l : (j : ℕ) × LoopAt (sheetRead (x .0)) j).
+        let e : 8 ≡ 0 = ap numberIn (sym (refuses-loop (x .0) (x .1) (l .0) (l .1)) ∙ h) in
+        absurd (omega arith))
+        (λ (n : NoLoop (sheetRead (x .0))). (x .0, x .1, n, sym (accepts-none (x .0) (x .1) n) ∙ h))
+        (loop-or-none (x .0) (x .1)))
+        (λ (y : (r : Refusal) × (reading sheet p t ≡ outcome (Bad r) p t) × NotLoop (Refuse r)).
+        let e : numberOf (y .0 .name) ≡ 0 = ap numberIn (sym (y .1) ∙ h) in
+        absurd (omega (arith, some-number (y .0 .name) .0, e)))
+        order-cases),
+    (λ x. accepts-none (x .0) (x .1) (x .2) ∙ x .3),
+  )
+
+  -- a refusal leaves both tables as they came
+  pub reader-keeps : (r : Refusal) → reading sheet p t .answer ≡ Bad r → reading sheet p t ≡ outcome (Bad r) p t
+  reader-keeps r h =
+      let kept : (x : Reading) → reading sheet p t ≡ outcome x p t → reading sheet p t ≡ outcome (Bad r) p t
+      = λ x e. e ∙ ap (λ (a : Reading). outcome a p t) (sym (ap (λ (o : Outcome). o .answer) e) ∙ h) in
+      ⊎-elim
+      (λ (x : (s : State) × InOrder sheet p t s).
+      ⊎-elim
+      (λ (l : (j : ℕ) × LoopAt (sheetRead (x .0)) j). kept (loopAt (l .0)) (refuses-loop (x .0) (x .1) (l .0) (l .1)))
+      (λ (n : NoLoop (sheetRead (x .0))).
+      let e : Good (handed (x .0 .seen)) ≡ Bad r = sym (ap (λ (o : Outcome). o .answer) (accepts-none (x .0) (x .1) n)) ∙ h in
+      absurd (omega (arith, some-number (r .name) .0, ap (λ (a : Reading). answered (verdictOf a) .number) e)))
+      (loop-or-none (x .0) (x .1)))
+      (λ (y : (r : Refusal) × (reading sheet p t ≡ outcome (Bad r) p t) × NotLoop (Refuse r)). kept (Bad (y .0)) (y .1))
+      order-cases

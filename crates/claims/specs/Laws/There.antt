@@ -1,0 +1,134 @@
+-- What the contracts ask for is there: every step has an outcome, and every input a day. (That code meets them says it too, of what a program can lend.)
+-- Assumes nothing.
+use mathlib.Core.Path.{_≡_, refl, sym, subst}
+use mathlib.Core.Logic.{⊎-elim}
+use mathlib.Core.Bool.{true, false}
+use mathlib.Core.List.{List, _++_}
+use Prim.Native.Nat.{ℕ, suc, _^_, _<_}
+use lib.Dec.{eqb}
+use lib.ListN.{length, drop}
+use borrow.Author.Tests.{eqb-true, eqb-false}
+use Rattle.theory.specs.Numbers.{ROLES}
+use Rattle.theory.specs.Below.{ExactlyOne}
+use Rattle.theory.specs.Sheet.{Sheet, GoodOrder}
+use Rattle.theory.specs.Graph.{NoLoop}
+use Rattle.theory.specs.Model.{Stream, noRoles}
+use Rattle.theory.specs.Box.{Within}
+use Rattle.theory.specs.Laws.Tests.{test}
+use Rattle.theory.specs.Laws.Run.{exactly-one-model}
+use Rattle.answers.specs.declared.Name.the-variants.{Length}
+use Rattle.answers.specs.declared.Refusal.{Refusal}
+use Rattle.answers.specs.declared.Verdict.{Verdict}
+use Rattle.answers.specs.declared.Verdict.the-variants.{Pass, Refuse}
+use Rattle.answers.specs.Answers.{refuse}
+use Rattle.answers.specs.Laws.{verdict-cases, no-pass}
+use Rattle.text.specs.Lines.{lines}
+use Rattle.tables.specs.Layout.{sheetOf}
+use Rattle.tables.specs.Buffers.{rolesOf, eventsOf}
+use Rattle.tables.specs.Asked.{Asked}
+use Rattle.masks.specs.Laws.Held.{Narrow}
+use Rattle.after.specs.After.{rolesBelow}
+use Rattle.after.specs.Laws.{roles-are}
+use Rattle.row_judge.specs.Judge.{Rules, sheetIn}
+use Rattle.judge.specs.Laws.{judge-passes}
+use Rattle.requests.specs.Laws.{AllFit, requests-pass}
+use Rattle.minute.specs.Minute.{refilled}
+use Rattle.step.specs.Outcome.{Lent, lent, judgeStep, Stepped, Outcome}
+use Rattle.step.specs.Exact.{step-exact, one-buffer-served}
+use Rattle.step.specs.Laws.Buffers.{rows-size, rows-are}
+use Rattle.step.specs.Laws.Passes.{Accepted, step-passes}
+use Rattle.tape.specs.Tape.{asksIn}
+use Rattle.tape.specs.Accepted.{fine-within}
+use Rattle.openings.specs.declared.Plan.{Plan}
+use Rattle.openings.specs.declared.Opened.{Opened}
+use Rattle.openings.specs.declared.Opened.the-variants.{Opens, Refuses}
+use Rattle.openings.specs.Opening.{Opening, opening}
+use Rattle.openings.specs.Planned.{planned}
+use Rattle.days.specs.declared.Printed.{Printed}
+use Rattle.days.specs.Day.{minuteLines, Prints, answerTo, OUTPUT-BYTES, DayOutcome}
+use Rattle.days.specs.Run.{rulesOf, openingOf}
+use Rattle.days.specs.Exact.{prints-one, day-exact}
+use Rattle.days.specs.Laws.Opened.{Opens-to, plan-opens, plan-refuses}
+
+-- ---- a step
+
+module _ (R : Rules) (q : Asked) (l : Lent) (wide : l .roles < 2 ^ 64) (narrow : Narrow 16 (l .waiting)) where
+  -- an accepted step: the one buffer that holds the solution, the roles after it and what waits then
+  stepped : judgeStep R q l ≡ Pass → (a : Lent) × Stepped R q l a
+  stepped h =
+      let x : Accepted R q l = step-passes R q l h in
+      let g : GoodOrder (sheetIn R) × NoLoop (sheetIn R) = judge-passes (sheetIn R) (x .tables) in
+      let fit : AllFit (R .roleCount) q = requests-pass (R .roleCount) q (x .requests) in
+      let one = one-buffer-served R (g .0) (g .1) q fit l narrow in
+      let b : List ℕ = one .0 in
+      let size = x .lengths .waiting in (
+        lent (suc (l .instant)) (rolesBelow (rolesOf (l .roles)) (eventsOf b) ROLES) (refilled (l .waiting) (eventsOf b) (R .triggers) (R .triggerCount) q (rolesOf (l .roles)) (l .instant)) b,
+        record {
+          step = record {
+            solves = one .1 .2;
+            instant = refl;
+            roles = λ r. roles-are (l .roles) b wide r;
+            waiting = λ k e p _. rows-are R (g .0) q fit (rolesOf (l .roles)) (eventsOf b) (l .instant) (l .waiting) size k e p;
+          };
+          waiting-size = rows-size R (g .0) q fit (rolesOf (l .roles)) (eventsOf b) (l .instant) (l .waiting) size;
+          events-size = one .1 .0;
+        },
+      )
+
+  -- THE THEOREM: an answer and what is lent after it, and exactly one of each
+  pub step-there : ExactlyOne (λ (o : Verdict × Lent). Outcome R q l (o .0) (o .1))
+  step-there =
+      ⊎-elim
+      (λ (h : judgeStep R q l ≡ Pass).
+      let s = stepped h in
+      one Pass (s .0) (record { judged = sym h; refused = λ r e. no-pass r (sym e); passed = λ _. s .1 }))
+      (λ (h : (r : Refusal) × (judgeStep R q l ≡ Refuse r)).
+      one (Refuse (h .0)) l (record { judged = sym (h .1); refused = λ r e. refl; passed = λ e. no-pass (h .0) e }))
+      (verdict-cases (judgeStep R q l))
+    where
+      one : (v : Verdict) (a : Lent) → Outcome R q l v a → ExactlyOne (λ (o : Verdict × Lent). Outcome R q l (o .0) (o .1))
+      one v a x = ((v, a), x, λ o y. let e = step-exact R q l (o .0) v (o .1) a y x in λ i. (e .0 i, e .1 i))
+
+-- ---- a day
+
+-- what is printed of an opening
+abbrev Printing : Opening → Type 0
+Printing o = (s : List ℕ) × Prints o s
+
+open-there : (input : List ℕ) (plan : Plan) (p t tape : List ℕ) → Opens-to input plan p t → tape ≡ drop (plan .from) input → Printing (openingOf plan p t tape)
+unfolding sheetOf
+open-there input plan p t tape x e =
+    let sh : Sheet = sheetIn (rulesOf plan p t) in
+    let RQ : Stream = asksIn (lines tape) in
+    let g : GoodOrder sh × NoLoop sh = judge-passes sh (x .tables) in
+    let within : Within sh RQ
+    = λ u d v q h. fine-within (plan .roles) 0 0 (lines (drop (plan .from) input)) (x .tape-fine) u d v q (subst (λ (y : List ℕ). asksIn (lines y) u d v q ≡ true) e h) in
+    let m = exactly-one-model sh (g .0) (g .1) noRoles RQ within in
+    (minuteLines (m .0) (suc (plan .last)), record { trace = m .0; model = m .1; lines = refl })
+
+by-answer : (input : List ℕ) (o : Opened) → planned input .answer ≡ o → Printing (opening input)
+by-answer input (Opens plan) h =
+    let x = plan-opens input (planned input .periodic) (planned input .triggers) (planned input .answer) refl plan h in
+    subst Printing (sym (x .opens-it)) (open-there input plan (planned input .periodic) (planned input .triggers) (drop (plan .from) input) x refl)
+by-answer input (Refuses r) h = subst Printing (sym (plan-refuses input (planned input .periodic) (planned input .triggers) (planned input .answer) refl r h)) (_, refl)
+
+-- THE THEOREM: an input has exactly one day
+pub day-there : (input : List ℕ) → ExactlyOne (Prints (opening input))
+day-there input = let s = by-answer input (planned input .answer) refl in (s .0, s .1, λ other y. prints-one input other (s .0) y (s .1))
+
+-- and with any lent buffer exactly one outcome
+pub outcome-there : (input out : List ℕ) → ExactlyOne (λ (o : Printed × List ℕ). DayOutcome input out (o .0) (o .1))
+outcome-there input out =
+    ⊎-elim
+    (λ (h : eqb (length out) OUTPUT-BYTES ≡ true).
+    let d = day-there input in
+    let s : List ℕ = d .0 in
+    one (record { verdict = answerTo (opening input); length = length s }) (s ++ drop (length s) out)
+    (record { fits = λ _. record { printed = s; day = d .1; verdict = refl; size = refl; buffer = refl }; unfit = λ n. absurd (n (eqb-true _ _ h)) }))
+    (λ (h : eqb (length out) OUTPUT-BYTES ≡ false).
+    one (record { verdict = refuse Length 0; length = 0 }) out
+    (record { fits = λ e. absurd (eqb-false _ _ h e); unfit = λ _. (refl, refl) }))
+    (test (eqb (length out) OUTPUT-BYTES))
+  where
+    one : (r : Printed) (o : List ℕ) → DayOutcome input out r o → ExactlyOne (λ (o : Printed × List ℕ). DayOutcome input out (o .0) (o .1))
+    one r o x = ((r, o), x, λ b y. let e = day-exact input out (b .0) r (b .1) o y x in λ i. (e .0 i, e .1 i))

@@ -1,0 +1,72 @@
+-- Words of the demands that no crate below has as one: a sheet that reads in good order to its end, a step that is in order but for loops and requests, the equation of what is lent, the count of
+-- events, and the examples that shut wrong boxes out.
+-- Assumes nothing.
+use mathlib.Core.Path.{_≡_}
+use mathlib.Core.Bool.{true}
+use mathlib.Core.List.{List, [], _∷_}
+use Prim.Native.Nat.{ℕ, _≤_}
+use lib.ListN.{length, replicate}
+use Rattle.theory.specs.Numbers.{EVENTS, LAST-INSTANT, REQUESTS, WAITING-NUMBERS}
+use Rattle.theory.specs.Below.{countBelow}
+use Rattle.theory.specs.Events.{Events, nonblocked}
+use Rattle.theory.specs.Sheet.{GoodOrder}
+use Rattle.theory.specs.Instant.{Solves}
+use Rattle.theory.specs.Box.{givens}
+use Rattle.text.specs.Lines.{lines}
+use Rattle.tables.specs.Layout.{PERIODIC-TABLE, TRIGGER-TABLE}
+use Rattle.tables.specs.Buffers.{rolesOf}
+use Rattle.tables.specs.Asked.{Asked, asks}
+use Rattle.walks.specs.Walks.{goes}
+use Rattle.line_acts.specs.Acts.{State}
+use Rattle.lines.specs.Lines.{reads}
+use Rattle.sheet.specs.Sheet.{start, lengthsFit}
+use Rattle.row_judge.specs.Judge.{Rules, rules, sheetIn}
+use Rattle.step.specs.Outcome.{Lent, stateIn}
+use Rattle.examples.specs.Day.{text, sheetLines, tapeLines, askedAt, filled}
+use Rattle.examples.specs.Table.{input, periodics, triggers}
+
+-- A SHEET IN GOOD ORDER, as bytes: LENGTH is not given, and every line passes its tests up to and with the end; s is what was read of them.
+pub record InOrder (sheet p t : List ℕ) (s : State) : Type 0 where
+  pub lengths : lengthsFit (length sheet) (length p) (length t) ≡ true
+  pub to-its-end : reads (goes start) (lines sheet) ≡ goes s
+
+-- A STEP IN GOOD ORDER: what is lent has its exact lengths, the instant and the number of requests are within their limits, and the rows are in good order.
+pub record Ordered (R : Rules) (q : Asked) (l : Lent) : Type 0 where
+  pub periodics : length (R .periodics) ≡ PERIODIC-TABLE
+  pub triggers : length (R .triggers) ≡ TRIGGER-TABLE
+  pub waiting : length (l .waiting) ≡ WAITING-NUMBERS
+  pub events : length (l .events) ≡ EVENTS
+  pub instant : l .instant ≤ LAST-INSTANT
+  pub requests : q .count ≤ REQUESTS
+  pub rows : GoodOrder (sheetIn R)
+
+-- S solves the equation of what is lent: of its rows, of the roles before the instant, and of the givens.
+abbrev pub SolvesFor : Rules → Asked → Lent → Events → Type 0
+SolvesFor R q l S = Solves (sheetIn R) (rolesOf (l .roles)) (givens (sheetIn R) (asks q) (stateIn l)) S
+
+-- how many events of 0 to 127 have a nonblocked member in S
+abbrev pub countIn : Events → ℕ
+countIn S = countBelow EVENTS (nonblocked S S)
+
+-- ---- examples
+
+-- lent tables of zeros
+abbrev pub noPeriodics : List ℕ
+noPeriodics = replicate PERIODIC-TABLE 0
+
+abbrev pub noTriggers : List ℕ
+noTriggers = replicate TRIGGER-TABLE 0
+
+-- document 01's third example as a sheet: one role; enable 0 gives 5:disable 0 with delay 0; no periodic row and one trigger
+abbrev pub looped : List ℕ
+looped = text ("100101EE" ∷ "30010001000500C9" ∷ "F00000010F" ∷ [])
+
+-- document 01's worked input: the bytes of its sheet, what the reader hands out of them, as it is lent to a step, and the requests of its tape
+abbrev pub workedSheet : List ℕ
+workedSheet = text (sheetLines (input .input))
+
+abbrev pub worked : Rules
+worked = rules 3 1 2 (filled PERIODIC-TABLE periodics) (filled TRIGGER-TABLE triggers)
+
+abbrev pub asked : ℕ → Asked
+asked = askedAt (tapeLines (input .input))

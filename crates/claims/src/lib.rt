@@ -1,0 +1,1 @@
+// The top theorems, stated once more and in one place; there is no code here.
