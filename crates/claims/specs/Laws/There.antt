@@ -45,8 +45,9 @@ use Rattle.openings.specs.declared.Opened.the-variants.{Opens, Refuses}
 use Rattle.openings.specs.Opening.{Opening, opening}
 use Rattle.openings.specs.Planned.{planned}
 use Rattle.days.specs.declared.Printed.{Printed}
-use Rattle.days.specs.Day.{minuteLines, Prints, answerTo, OUTPUT-BYTES, DayOutcome}
-use Rattle.days.specs.Run.{rulesOf, openingOf}
+use Rattle.day_lines.specs.Lines.{minuteLines, OUTPUT-BYTES}
+use Rattle.day_lines.specs.Run.{rulesOf, openingOf}
+use Rattle.days.specs.Day.{Prints, answerTo, DayOutcome}
 use Rattle.days.specs.Exact.{prints-one, day-exact}
 use Rattle.days.specs.Laws.Opened.{Opens-to, plan-opens, plan-refuses}
 
