@@ -10,7 +10,7 @@ use lib.Dec.{eqb}
 use lib.ListN.{drop, getD, length, set}
 use lib.Seq.{paste}
 use Rattle.theory.specs.Agreed.{limits}
-use Rattle.theory.specs.Below.{countBelow, one}
+use Rattle.theory.specs.Below.{anyBelow, countBelow, one}
 use Rattle.theory.specs.Events.{conf, nonblocked}
 use Rattle.theory.specs.Graph.{Levels, node}
 use Rattle.theory.specs.Instant.{allows, met}
@@ -358,6 +358,10 @@ rows-with row b on h r r′ = Rows.with-exact row b on r r′ h
 -- rows::joined
 pub rows-joined : (x y : Row) → whole x → whole y → Exact (λ r. ((f g : ℕ → Bool) → RowIs f x → RowIs g y → RowIs (λ b. f b || g b) r))
 rows-joined x y h k r r′ = Rows.joined-exact x y r r′ h k
+
+-- rows::some
+pub rows-some : (row : Row) → Exact (λ r. r ≡ anyBelow EVENTS (reaches row))
+rows-some = Rows.some-exact
 
 -- rows::leads
 pub rows-leads : (rows : List Row) (a b : ℕ) → Exact (λ r. r ≡ edgesOf rows a b)

@@ -1,11 +1,14 @@
 ghost use mathlib.Core.Path.{_≡_};
 ghost use mathlib.Core.Bool.{_&&_};
+ghost use Prim.Native.Nat.{ℕ, _+_, _<_};
+ghost use lib.ListN.{length, getD};
 ghost use Rattle.theory.specs.Numbers.{EVENTS};
-ghost use Rattle.theory.specs.Below.{countBelow, firstBelow};
+ghost use Rattle.theory.specs.Below.{one, countBelow, firstBelow};
 ghost use Rattle.theory.specs.LoopTest.{PAIRS};
 ghost use Rattle.tables.specs.Layout.{triggersOf};
-ghost use Rattle.rows.specs.Rows.{edgesOf};
+ghost use Rattle.rows.specs.Rows.{reaches, edgesOf};
 ghost use Rattle.loops.specs.Tested.{foundAt, cycleAt, tabulate, tested};
+use rows::Row;
 use rows::Rows;
 use rows::leads;
 
@@ -42,9 +45,11 @@ fn first_cycle(minus: &Rows, reach: &Rows) -> Found
         if from == 128 {
             break 'search Found::Nothing;
         }
-        for to in 0..128 {
-            if on_cycle(minus, reach, from, to) {
-                break 'search Found::At(from, to);
+        if rows::some(&minus[basic::index(from)]) {
+            for to in 0..128 {
+                if on_cycle(minus, reach, from, to) {
+                    break 'search Found::At(from, to);
+                }
             }
         }
         from += 1;
@@ -53,27 +58,24 @@ fn first_cycle(minus: &Rows, reach: &Rows) -> Found
 
 // ---- the levels
 
-// How many events reach e: the size of its column.
-fn column(rows: &Rows, e: u8) -> u8
-    ensures { λ r. ⌜ r ≡ countBelow EVENTS (λ x. edgesOf (now (rows .entry)) x e) ⌝ }
+// One more for each event that the row reaches.
+fn count_row(counts: &mut [u8; 128], row: &Row)
+    requires { ⌜ (length (now counts) ≡ EVENTS) × ((e : ℕ) → getD (now counts) e 0 < EVENTS) ⌝ }
+    ensures { λ _. ⌜ now (counts .exit) ≡ tabulate EVENTS (λ e. getD (now (counts .entry)) e 0 + one (reaches (now (row .entry)) e)) ⌝ }
 {
-    let mut n: u8 = 0;
-    for x in 0..128 {
-        let t = leads(rows, x, e);
-        n = n + basic::one(t);
+    for e in 0..128 {
+        let i = basic::index(e);
+        counts[i] = counts[i] + basic::one(rows::reaches(row, e));
     }
-    n
 }
 
-// The level of each event.
+// The level of each event: row after row, how many reach it.
 fn levels(reach: &Rows) -> [u8; 128]
     ensures { λ r. ⌜ r ≡ tabulate EVENTS (λ e. countBelow EVENTS (λ x. edgesOf (now (reach .entry)) x e)) ⌝ }
 {
     let mut r = [0; 128];
-    for e in 0..128 {
-        let size = column(reach, e);
-        let i = basic::index(e);
-        r[i] = size;
+    for x in 0..128 {
+        count_row(&mut r, &reach[x]);
     }
     r
 }

@@ -2,9 +2,9 @@
 -- Assumes nothing.
 use mathlib.Core.Path.{_≡_, refl, sym, ap, ap₂, _∙_}
 use mathlib.Core.Logic.{⊎-elim}
-use mathlib.Core.Bool.{Bool, true, false, _&&_, _||_, and-false, or-false, or-comm}
+use mathlib.Core.Bool.{Bool, true, false, _&&_, _||_, and-true, and-false, or-false, or-self, or-comm}
 use mathlib.Core.List.{List}
-use Prim.Native.Nat.{ℕ, _+_, _≤_, _<_}
+use Prim.Native.Nat.{ℕ, zero, suc, _+_, _≤_, _<_}
 use native.Mathlib.Omega.{arith}
 use lib.Dec.{eqb, ltb}
 use lib.ListN.{set}
@@ -90,6 +90,29 @@ module _ (E : Edges) (rows : List Row) (k a : ℕ) where
 
   pub phase-end : EVENTS ≤ a → RowsAre (soFar (onward k E) a E) rows → RowsAre (via k E) rows
   phase-end = far-end E (onward k E) rows a
+
+-- through an event without an edge nothing leads on: it reaches itself alone
+module _ (E : Edges) (k : ℕ) (l : k < EVENTS) (none : (b : ℕ) → b < EVENTS → E k b ≡ false) where
+  lone : (j b : ℕ) → j ≤ EVENTS → b < EVENTS → through E j k b ≡ eqb k b
+  unfolding through
+  lone zero b m n = rw (none b n, or-false) refl
+  lone (suc j) b m n =
+      rw (lone j b (omega arith) n, lone j j (omega arith) (omega arith))
+      (⊎-elim
+      (λ (t : eqb k j ≡ true). let e : through E j j b ≡ eqb k b = ap (λ (z : ℕ). through E j z b) (sym (eqb-true k j t)) ∙ lone j b (omega arith) n in rw (t, e) (or-self (eqb k b)))
+      (λ (t : eqb k j ≡ false). rw (t, or-false) refl)
+      (test (eqb k j)))
+
+  pub through-past : (rows : List Row) → RowsAre (through E k) rows → RowsAre (through E (k + 1)) rows
+  through-past rows h = rows-same (through E (k + 1)) (λ x y _ n. sym (through-next E k x y ∙ stays x y n)) h
+    where
+      stays : (x y : ℕ) → y < EVENTS → (through E k x y || (through E k x k && through E k k y)) ≡ through E k x y
+      stays x y n =
+          rw (lone k y (omega arith) n)
+          (⊎-elim
+          (λ (t : eqb k y ≡ true). let q : k ≡ y = eqb-true k y t in rw (t, ← q, and-true) (or-self (through E k x k)))
+          (λ (t : eqb k y ≡ false). rw (t, and-false, or-false) refl)
+          (test (eqb k y)))
 
 -- phase after phase
 module _ (E : Edges) (rows : List Row) (k : ℕ) where

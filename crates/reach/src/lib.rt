@@ -1,7 +1,8 @@
-ghost use Prim.Native.Nat.{_<_};
+ghost use Prim.Native.Nat.{_+_, _<_};
 ghost use Rattle.theory.specs.Numbers.{EVENTS};
+ghost use Rattle.theory.specs.Graph.{Edges};
 ghost use Rattle.theory.specs.LoopTest.{through};
-ghost use Rattle.rows.specs.Rows.{Become};
+ghost use Rattle.rows.specs.Rows.{RowsAre, Become};
 ghost use Rattle.reach.specs.Reach.{takenOver, via};
 use rows::Rows;
 
@@ -39,6 +40,16 @@ fn phase(rows: &mut Rows, k: u8)
     }
 }
 
+// The paths through k join those through events below it. Where no edge leaves k there are none.
+fn go_through(rows: &mut Rows, edges: &Rows, k: u8)
+    requires { ⌜ k < EVENTS ⌝ }
+    ensures { λ _. ⌜ ((E : Edges) → RowsAre E (now (edges .entry)) → RowsAre (through E k) (now (rows .entry)) → RowsAre (through E (k + 1)) (now (rows .exit))) ⌝ }
+{
+    if rows::some(&edges[basic::index(k)]) {
+        phase(rows, k);
+    }
+}
+
 // The rows closed under edges: for each event the row of events that it reaches.
 pub fn closed(edges: Rows) -> Rows
     ensures { λ r. ⌜ Become (λ E. through E EVENTS) edges r ⌝ }
@@ -46,7 +57,7 @@ pub fn closed(edges: Rows) -> Rows
     let mut rows = edges;
     own(&mut rows);
     for k in 0..128 {
-        phase(&mut rows, k);
+        go_through(&mut rows, &edges, k);
     }
     rows
 }

@@ -11,6 +11,7 @@ use lib.ListN.{length, getD}
 use lib.Seq.{ext-getD}
 use borrow.Author.Tests.{lt-ltb}
 use Rattle.theory.specs.Numbers.{EVENTS}
+use Rattle.theory.specs.Below.{anyBelow}
 use Rattle.theory.specs.Graph.{Edges}
 use Rattle.theory.specs.Laws.Exact.{exact}
 use Rattle.rows.specs.Rows.{Row, whole, reaches, edgesOf, RowIs, RowsAre, Become, linked}
@@ -63,6 +64,9 @@ joined-exact x y r r′ h k e e′ =
     row-one (λ b. reaches x b || reaches y b) r r′
     (e (reaches x) (reaches y) (row-own x h) (row-own y k))
     (e′ (reaches x) (reaches y) (row-own x h) (row-own y k))
+
+pub some-exact : (row : Row) (r r′ : Bool) → r ≡ anyBelow EVENTS (reaches row) → r′ ≡ anyBelow EVENTS (reaches row) → r ≡ r′
+some-exact row r r′ = exact
 
 pub leads-exact : (rows : List Row) (a b : ℕ) (r r′ : Bool) → r ≡ edgesOf rows a b → r′ ≡ edgesOf rows a b → r ≡ r′
 leads-exact rows a b r r′ = exact

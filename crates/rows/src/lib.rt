@@ -2,6 +2,8 @@ ghost use mathlib.Core.Path.{_≡_};
 ghost use mathlib.Core.Bool.{Bool, _&&_, _||_};
 ghost use Prim.Native.Nat.{ℕ};
 ghost use lib.Dec.{eqb};
+ghost use Rattle.theory.specs.Numbers.{EVENTS};
+ghost use Rattle.theory.specs.Below.{anyBelow};
 ghost use Rattle.rows.specs.Rows.{reaches, edgesOf, RowIs, Become, linked};
 
 // A row of events: a truth value a byte, one for each event.
@@ -41,6 +43,17 @@ pub fn joined(x: Row, y: Row) -> Row
         r[b] = r[b] | y[b];
     }
     r
+}
+
+// The row reaches some event.
+pub fn some(row: &Row) -> bool
+    ensures { λ r. ⌜ r ≡ anyBelow EVENTS (reaches (now (row .entry))) ⌝ }
+{
+    let mut any = false;
+    for b in 0..128 {
+        any = any | row[b];
+    }
+    any
 }
 
 // The row of a reaches b. What is no event has no row.

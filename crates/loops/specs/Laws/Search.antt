@@ -66,5 +66,15 @@ module _ (M R : Edges) where
     pub first-pair : t ≡ true → At a b ≡ foundAt (firstBelow PAIRS (cycleAt M R))
     first-pair p = sym (ap foundAt (first-is PAIRS (cycleAt M R) (pairPlace a b) (omega arith) (pair-at a b m ∙ sym e ∙ p) h) ∙ found-pair a b (omega arith) m)
 
+  -- no edge of M leaves a
+  pub pairs-past : (a : ℕ) → ((b : ℕ) → b < EVENTS → M a b ≡ false) → ((k : ℕ) → k < EVENTS * a → cycleAt M R k ≡ false) → (k : ℕ) → k < EVENTS * (a + 1) → cycleAt M R k ≡ false
+  pairs-past a none h k l =
+      by-cases (decLt k (EVENTS * a))
+      (λ (m : k < EVENTS * a). h k m)
+      (λ (m : ¬ (k < EVENTS * a)).
+      let b : ℕ = k % EVENTS in
+      let e : k ≡ pairPlace a b = omega arith in
+      rw e (pair-at a b (omega arith) ∙ ap (λ (t : Bool). t && R b a) (none b (omega arith))))
+
   pub no-pair : ((k : ℕ) → k < PAIRS → cycleAt M R k ≡ false) → Nothing ≡ foundAt (firstBelow PAIRS (cycleAt M R))
   no-pair h = sym (ap foundAt (first-none PAIRS (cycleAt M R) h) ∙ found-past PAIRS (omega arith))

@@ -4,25 +4,25 @@ use Prim.Native.Nat.{_-_, _≤_}
 use Rattle.theory.specs.Graph.{Edges}
 use Rattle.theory.specs.LoopTest.{through}
 use Rattle.rows.specs.Rows.{RowsAre}
-use Rattle.reach.specs.Laws.{through-more, through-end}
+use Rattle.reach.specs.Laws.{through-end}
 use borrow.Author.Needs.{needs}
 use Rattle.reach.proofs.closed.Statement.{statement}
 use Rattle.reach.proofs.closed.Tie as tie
 
 abbrev Inv-loop : tie.InvT-loop
-Inv-loop rows₀ k₀ rows k = (k ≤ 128) × ((E : Edges) → RowsAre (through E 0) rows₀ → RowsAre (through E k) rows)
+Inv-loop edges rows₀ k₀ rows k = (k ≤ 128) × ((E : Edges) → RowsAre E edges → RowsAre (through E k) rows)
 
 abbrev μ-loop : tie.MeasureT-loop
-μ-loop rows₀ k₀ rows k = 128 - k
+μ-loop edges rows₀ k₀ rows k = 128 - k
 
 own-requires : tie.Need-own-requires Inv-loop μ-loop
 own-requires c κs = search needs
 
 loop-holds : tie.Need-loop-holds Inv-loop μ-loop
-loop-holds c = (search needs, λ E h. h)
+loop-holds c = (search needs, λ E h. c .own .ensures E h)
 
-phase-requires : tie.Need-phase-requires Inv-loop μ-loop
-phase-requires c κs = search needs
+go-through-requires : tie.Need-go-through-requires Inv-loop μ-loop
+go-through-requires c κs = search needs
 
 add-k : tie.Need-add-k Inv-loop μ-loop
 add-k c = search needs
@@ -31,14 +31,10 @@ loop-less : tie.Need-loop-less Inv-loop μ-loop
 loop-less c = search needs
 
 loop-again : tie.Need-loop-again Inv-loop μ-loop
-loop-again c =
-    let d = c .before .before .before .loop in
-    (search needs, λ E h. through-more E _ (d .k) (c .phase .ensures (through E (d .k)) (d .inv .1 E h)))
+loop-again c = let d = c .before .before .before .before .loop in (search needs, λ E h. c .go-through .ensures E h (d .inv .1 E h))
 
 returns : tie.Need-returns Inv-loop μ-loop
-returns c =
-    let d = c .before .loop in
-    λ E h. through-end E _ (d .k) (search needs) (search needs) (d .inv .1 E (c .before .before .own .ensures E h))
+returns c = let d = c .before .loop in λ E h. through-end E _ (d .k) (search needs) (search needs) (d .inv .1 E h)
 
 pub closed-spec : {M : Type 1} → statement M
 closed-spec =
@@ -48,7 +44,7 @@ closed-spec =
     μ-loop
     own-requires
     loop-holds
-    phase-requires
+    go-through-requires
     add-k
     loop-less
     loop-again

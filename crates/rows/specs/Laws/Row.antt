@@ -2,15 +2,19 @@
 -- Assumes nothing.
 use mathlib.Core.Path.{_≡_, refl, sym, ap, ap₂, _∙_}
 use mathlib.Core.Logic.{by-cases}
-use mathlib.Core.Bool.{Bool, true, false, _&&_, _||_, and-true, and-false, or-true}
+use mathlib.Core.Bool.{Bool, true, false, _&&_, _||_, and-true, and-false, or-true, or-comm, false≢true}
 use Prim.Native.Nat.{ℕ, _+_, _≤_, _<_}
 use native.Mathlib.Decide.{ℕ-discrete}
+use native.Mathlib.Numerals.{add-one}
 use native.Mathlib.Omega.{arith}
 use lib.Dec.{eqb, ltb}
 use lib.ListN.{getD, set, replicate, length-set, length-replicate, getD-replicate}
 use lib.Seq.{getD-set-same, getD-set-other}
 use borrow.Author.Tests.{lt-ltb, eq-eqb, ne-eqb}
 use Rattle.theory.specs.Numbers.{EVENTS}
+use Rattle.theory.specs.Below.{anyBelow}
+use Rattle.theory.specs.Laws.Below.{any-intro}
+use Rattle.theory.specs.Laws.Tests.{is-false}
 use Rattle.rows.specs.Rows.{Row, reaches, RowIs}
 use Rattle.rows.specs.Laws.Changes.{same-or, past-event, not-yet, one-more, all-made}
 
@@ -71,3 +75,20 @@ module _ (f g : ℕ → Bool) where
 
   pub joined-end : (row : Row) (b : ℕ) → EVENTS ≤ b → RowIs (some b) row → RowIs (λ x. f x || g x) row
   joined-end row b m h = row-same (λ x. f x || g x) (λ x l. all-made (f x) (g x) x b l m) h
+
+-- some event of the row: among none yet, among one more, and among all
+module _ (row : Row) where
+  pub some-none : false ≡ anyBelow 0 (reaches row)
+  unfolding anyBelow
+  some-none = refl
+
+  pub some-next : (b : ℕ) (any : Bool) → b < EVENTS → any ≡ anyBelow b (reaches row) → (any || getD row b false) ≡ anyBelow (b + 1) (reaches row)
+  unfolding anyBelow
+  some-next b any l e = rw (add-one, ← row-at row b l, e) (or-comm (anyBelow b (reaches row)) (reaches row b))
+
+  pub some-end : (b : ℕ) (any : Bool) → b ≤ EVENTS → EVENTS ≤ b → any ≡ anyBelow b (reaches row) → any ≡ anyBelow EVENTS (reaches row)
+  some-end b any l m h = let e : b ≡ EVENTS = omega arith in rw e at h
+
+  -- a row without one
+  pub none-reached : anyBelow EVENTS (reaches row) ≡ false → (b : ℕ) → b < EVENTS → reaches row b ≡ false
+  none-reached h b l = is-false (reaches row b) (λ t. false≢true (sym h ∙ any-intro EVENTS (reaches row) b l t))

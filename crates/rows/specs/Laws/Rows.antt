@@ -8,14 +8,15 @@ use Prim.Native.Nat.{ℕ, _≤_, _<_}
 use native.Mathlib.Decide.{ℕ-discrete}
 use native.Mathlib.Omega.{arith}
 use lib.Dec.{eqb}
-use lib.ListN.{set, replicate, length-set, length-replicate, getD-replicate}
+use lib.ListN.{getD, set, replicate, length-set, length-replicate, getD-replicate}
 use lib.Seq.{getD-set-same, getD-set-other}
 use borrow.Author.Tests.{lt-ltb, eq-eqb, ne-eqb}
 use Rattle.theory.specs.Numbers.{EVENTS}
+use Rattle.theory.specs.Below.{anyBelow}
 use Rattle.theory.specs.Graph.{Edges}
-use Rattle.rows.specs.Rows.{Row, edgesOf, RowIs, RowsAre, linked}
+use Rattle.rows.specs.Rows.{Row, reaches, edgesOf, RowIs, RowsAre, linked}
 use Rattle.rows.specs.Laws.Changes.{same-or, past-event}
-use Rattle.rows.specs.Laws.Row.{row-same, empty-row}
+use Rattle.rows.specs.Laws.Row.{row-same, empty-row, none-reached}
 
 pub rows-same : {E : Edges} {rows : List Row} (F : Edges) → ((a b : ℕ) → a < EVENTS → b < EVENTS → E a b ≡ F a b) → RowsAre E rows → RowsAre F rows
 rows-same F e h = record { size = h .size; each = λ a l. row-same (F a) (λ b m. e a b l m) (h .each a l) }
@@ -24,6 +25,16 @@ rows-same F e h = record { size = h .size; each = λ a l. row-same (F a) (λ b m
 pub rows-say : {E : Edges} {rows : List Row} → RowsAre E rows → (a b : ℕ) → a < EVENTS → b < EVENTS → edgesOf rows a b ≡ E a b
 unfolding edgesOf
 rows-say h a b l m = rw (lt-ltb a EVENTS l) (h .each a l .says b m)
+
+-- the edges of an event are what its row reaches
+pub edge-row : (rows : List Row) (a b : ℕ) → a < EVENTS → reaches (getD rows a []) b ≡ edgesOf rows a b
+unfolding edgesOf
+edge-row rows a b l = rw (lt-ltb a EVENTS l) refl
+
+-- an event whose row, at i, reaches none has no edge
+pub no-edge : (rows : List Row) (a i : ℕ) (some : Bool) → i ≡ a → some ≡ anyBelow EVENTS (reaches (getD rows i [])) → some ≡ false → (b : ℕ) → b < EVENTS → edgesOf rows a b ≡ false
+unfolding edgesOf
+no-edge rows a i some e s f b l = rw (← e, none-reached (getD rows i []) (sym s ∙ f) b l, and-false) refl
 
 pub empty-rows : RowsAre (λ _ _. false) (replicate EVENTS (replicate EVENTS false))
 empty-rows = record { size = length-replicate EVENTS (replicate EVENTS false); each = λ a l. rw (getD-replicate EVENTS a (replicate EVENTS false) [] l) empty-row }
