@@ -2,11 +2,11 @@
 #
 # Days, of the instants 0 to 10,080 unless `until` says less:
 #   common    a dozen rows
-#   dense     128 windows and 256 triggers of 4 events and 4 conditions, 63 levels deep by - edges
+#   dense     128 periodic rows and 256 triggers of 4 events and 4 conditions, 63 levels deep by - edges
 #   rings     256 triggers on a + ring of 64 events, in the order in which they fire
 #   uphill    the same ring in the other order, so that each walk over the rows adds one event
-#   graph     the triggers of dense and no window: nothing fires, so that a minute is little but its tests
-#   grow-N    the windows of dense and the first N of its triggers
+#   graph     the triggers of dense and no periodic row: nothing fires, so that a minute is little but its tests
+#   grow-N    the periodic rows of dense and the first N of its triggers
 # Readings; those that are refused make no step:
 #   longest   the longest good sheet, and as many requests as 65,536 bytes hold: a short day
 #   sheet     the longest good sheet and no tape: KIND, after the loop test
@@ -24,10 +24,10 @@ function line(  i, sum) {
     n = 0
 }
 function header(roles) { put(16, 1); put(1, 1); put(roles, 1); line() }
-function window(period, first, run, event, priority) {
+function periodic(period, first, run, event, priority) {
     put(32, 1); put(0, 4); put(4294967295, 4); put(period, 2); put(first, 2); put(run, 2)
     put(event, 1); put(priority, 1); line()
-    windows++
+    periodics++
 }
 function trigger(events, conditions, head, priority, delay,  e, c, i, j, k) {
     j = split(events, e, " ")
@@ -38,15 +38,15 @@ function trigger(events, conditions, head, priority, delay,  e, c, i, j, k) {
     put(head, 1); put(priority, 1); put(delay, 1); line()
     triggers++
 }
-function end(more) { put(240, 1); put(windows, 1); put(triggers + more, 2); line() }
+function end(more) { put(240, 1); put(periodics, 1); put(triggers + more, 2); line() }
 function request(instant, event, priority, delay) { put(64, 1); put(instant, 4); put(event, 1); put(priority, 1); put(delay, 1); line() }
 function last(instant) { put(241, 1); put(instant, 4); line() }
 
 # Four roles that are opened in the morning and closed in the evening, two that follow them, and one that waits.
 function common(  r) {
     header(8)
-    for (r = 0; r < 4; r++) window(1440, 480 + 60 * r, 1, 2 * r + 1, 4)
-    for (r = 0; r < 4; r++) window(1440, 960 + 30 * r, 1, 2 * r, 4)
+    for (r = 0; r < 4; r++) periodic(1440, 480 + 60 * r, 1, 2 * r + 1, 4)
+    for (r = 0; r < 4; r++) periodic(1440, 960 + 30 * r, 1, 2 * r, 4)
     trigger("1", "2", 11, 5, 0)
     trigger("3", "11", 13, 5, 0)
     trigger("13", "", 15, 6, 0)
@@ -56,10 +56,10 @@ function common(  r) {
 }
 
 # Each minute most roles are to be enabled, and some of them disabled with a higher priority.
-function dense_windows(many,  i) {
+function dense_periodics(many,  i) {
     for (i = 0; i < many; i++)
-        if (i % 2 == 0) window(60, i % 60, 57, (i + 1) % 128, 8)
-        else window(60, 7 * i % 60, 5, i - 1, 9)
+        if (i % 2 == 0) periodic(60, i % 60, 57, (i + 1) % 128, 8)
+        else periodic(60, 7 * i % 60, 5, i - 1, 9)
 }
 function enabled(role) { return 2 * (role < 0 ? 0 : role) + 1 }
 # Rows go up the roles: each enables or disables a role where four below it are enabled, and so hangs on the disabling of these.
@@ -74,7 +74,7 @@ function dense_triggers(many,  k, r, v) {
 }
 function dense(many, rows) {
     header(64)
-    dense_windows(many)
+    dense_periodics(many)
     dense_triggers(rows)
     end(0)
     last(until)
@@ -83,7 +83,7 @@ function dense(many, rows) {
 # Enable r gives enable r + 1, four times over with other priorities, and role 63 comes back to role 0, which alone is given.
 function rings(back,  i, k, r) {
     header(64)
-    for (i = 0; i < 128; i++) window(1 + i, 0, 1, 1, i % 16)
+    for (i = 0; i < 128; i++) periodic(1 + i, 0, 1, 1, i % 16)
     for (k = 0; k < 256; k++) {
         r = back ? 63 - int(k / 4) : int(k / 4)
         trigger(2 * r + 1, "", 2 * ((r + 1) % 64) + 1, k % 16, 0)
@@ -94,7 +94,7 @@ function rings(back,  i, k, r) {
 
 function longest(more) {
     header(64)
-    dense_windows(128)
+    dense_periodics(128)
     dense_triggers(256)
     end(more)
 }

@@ -24,6 +24,7 @@ struct part {
     char **words;
 };
 
+/* Says what went wrong, with the system's reason where it has one; the status. */
 static int fail(const char *what, const char *name)
 {
     fprintf(stderr, "stopwatch: %s %s%s%s\n", what, name, errno ? ": " : "",
@@ -34,7 +35,7 @@ static int fail(const char *what, const char *name)
 /* The child: standard input and output are put in place, and the program takes over. */
 static void become(const struct part *part, long stack)
 {
-    char *none[] = { NULL };
+    char *none[] = {NULL};
     struct rlimit limit;
     int in = open(part->input, O_RDONLY), out = open("/dev/null", O_WRONLY);
 
@@ -87,6 +88,7 @@ static int run(const struct part *part, long stack, long *took)
     return WIFEXITED(status) ? WEXITSTATUS(status) : 128;
 }
 
+/* The order of two times. */
 static int by_size(const void *one, const void *other)
 {
     long a = *(const long *)one, b = *(const long *)other;
@@ -204,6 +206,7 @@ static int find_parts(int count, char **words, struct part *parts)
     return n;
 }
 
+/* How it is called; the status. */
 static int usage(void)
 {
     fprintf(stderr, "usage: stopwatch time RUNS {-- INPUT PROGRAM WORD..}..\n"
@@ -211,6 +214,7 @@ static int usage(void)
     return 2;
 }
 
+/* time measures all parts in turn, stack the one part that there is. */
 int main(int count, char **words)
 {
     struct part parts[PARTS_MOST];

@@ -28,7 +28,7 @@ struct book {
 };
 
 /* The shapes that a trigger table can be given. */
-enum shape { MIXED, ORDERED, CHAIN, RING, LADDER, TANGLE, SHAPES };
+enum shape { MIXED, ORDERED, CHAIN, RING, LADDER, TANGLE };
 
 /* dice.c */
 struct dice dice_of(uint64_t seed, const char *kind);

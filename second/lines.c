@@ -47,7 +47,7 @@ static int digit_value(uint8_t character)
     return -1;
 }
 
-/* FRAME: an empty line, a character that is no upper-case hex digit, an odd count, no final 0A. */
+/* FRAME is not given: not empty, all upper-case hex digits, an even count, and a final 0A. */
 static int frame_right(const struct line *line, struct frame *frame)
 {
     size_t i;
@@ -69,7 +69,7 @@ static int frame_right(const struct line *line, struct frame *frame)
     return 1;
 }
 
-/* CHECK: the sum of all bytes of the frame is a multiple of 256. */
+/* CHECK is not given: the sum of all bytes of the frame is a multiple of 256. */
 static int check_right(const struct frame *frame)
 {
     unsigned long sum = 0;

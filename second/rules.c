@@ -4,7 +4,7 @@
 #include <string.h>
 
 /* Event number 2 x role + 1 is enable, 2 x role is disable. */
-int is_enable(unsigned event)
+static int is_enable(unsigned event)
 {
     return event % 2 == 1;
 }
@@ -52,7 +52,7 @@ int same_set(const struct set *one, const struct set *other)
  * p:enable R is blocked by q:disable R in the set with q >= p, p:disable R by q:enable R with q
  * > p.
  */
-int blocked(const struct set *set, unsigned priority, unsigned event)
+static int blocked(const struct set *set, unsigned priority, unsigned event)
 {
     unsigned q;
 

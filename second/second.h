@@ -174,14 +174,12 @@ void text_frame(struct text *text, const uint8_t *bytes, size_t length);
 void text_print(const struct text *text);
 
 /* rules.c */
-int is_enable(unsigned event);
 unsigned conf(unsigned event);
 int holds(unsigned condition, uint64_t roles);
 int due(const struct periodic *row, uint32_t t);
 int in_set(const struct set *set, unsigned priority, unsigned event);
 void add(struct set *set, unsigned priority, unsigned event);
 int same_set(const struct set *one, const struct set *other);
-int blocked(const struct set *set, unsigned priority, unsigned event);
 struct set unblocked_by(const struct set *set);
 struct set nonblocked(const struct set *set);
 unsigned nonblocked_events(const struct set *set);

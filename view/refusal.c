@@ -173,7 +173,7 @@ static void say_loop(const struct names *names, const struct sheet *sheet, uint3
     say_event(names, to);
     printf("\n");
     if (!say_circle(names, sheet, from, to)) {
-        printf("The cycle could not be shown.\n");
+        printf("The circle could not be shown.\n");
     }
 }
 

@@ -28,9 +28,10 @@ static void put_number(byte *to, u64 value, u32 count)
     }
 }
 
+/* The line of a refusal: its number and its place. */
 static byte *put_refusal(byte *to, struct answer refusal)
 {
-    byte frame[6] = { 0xE0 };
+    byte frame[6] = {0xE0};
 
     frame[1] = (byte)refusal.name;
     put_number(frame + 2, refusal.place, 4);
@@ -48,9 +49,10 @@ static byte count_live(const u16 *events)
     return (byte)count;
 }
 
+/* The line of an instant: the roles after it, and how many events have a nonblocked member. */
 static byte *put_minute(byte *to, u32 instant, const struct state *state)
 {
-    byte frame[14] = { 0x50 };
+    byte frame[14] = {0x50};
 
     put_number(frame + 1, instant, 4);
     put_number(frame + 5, state->roles, 8);
@@ -61,8 +63,8 @@ static byte *put_minute(byte *to, u32 instant, const struct state *state)
 /* The instants 0 to the last, from the fresh state; 0 where a step refused what was tested. */
 static byte *run(byte *to, const struct tables *tables, const struct tape *tape)
 {
-    u16 waiting[WAITING] = { 0 }, events[EVENTS];
-    struct state state = { 0, 0, waiting, events, WAITING, EVENTS };
+    u16 waiting[WAITING_NUMBERS] = {0}, events[EVENTS];
+    struct state state = {0, 0, waiting, events, WAITING_NUMBERS, EVENTS};
     u32 t, from, next = 0;
 
     for (t = 0; t <= tape->last; t++) {
@@ -81,7 +83,7 @@ static byte *run(byte *to, const struct tables *tables, const struct tape *tape)
 /* The lines of the input up to and with the first that begins with F0, which are its sheet. */
 static struct lines sheet_part(byte *input, u32 length)
 {
-    struct lines part = { input, input + length, 0 };
+    struct lines part = {input, input + length, 0};
     byte *start;
 
     while (part.at < part.end) {
@@ -101,7 +103,7 @@ static byte *day(byte *to, byte *input, u32 length, struct tape *tape)
 {
     struct periodic periodic[PERIODIC_ROWS];
     struct trigger trigger[TRIGGER_ROWS];
-    struct tables tables = { periodic, trigger, PERIODIC_ROWS, TRIGGER_ROWS, 0, 0, 0 };
+    struct tables tables = {periodic, trigger, PERIODIC_ROWS, TRIGGER_ROWS, 0, 0, 0};
     struct answer found;
     struct lines rest;
 
@@ -143,6 +145,7 @@ static int write_output(const byte *from, const byte *end)
     return 1;
 }
 
+/* The status is 1 where a step refused what was tested, or where not all could be written. */
 int main(void)
 {
     static byte input[INPUT_BYTES + 3], output[OUTPUT_BYTES];

@@ -4,6 +4,7 @@
 
 #include "peer.h"
 
+/* A periodic row holds what it may. */
 static inline int periodic_fits(const struct periodic *row, u32 roles)
 {
     return row->begin <= LAST_INSTANT
@@ -28,10 +29,11 @@ static inline int of_roles(const byte *place, u32 count, u32 roles)
     return 1;
 }
 
+/* A trigger holds what it may; the places past its counts are ignored. */
 static inline int trigger_fits(const struct trigger *row, u32 roles)
 {
-    return row->events >= 1 && row->events <= PLACES
-        && row->conditions <= PLACES
+    return row->events >= 1 && row->events <= BODY_EVENTS
+        && row->conditions <= BODY_CONDITIONS
         && of_roles(row->event, row->events, roles)
         && of_roles(row->condition, row->conditions, roles)
         && row->head < 2 * roles
@@ -39,6 +41,7 @@ static inline int trigger_fits(const struct trigger *row, u32 roles)
         && row->delay <= LONGEST_DELAY;
 }
 
+/* A request is within its limits. */
 static inline int request_fits(const struct request *request, u32 roles)
 {
     return request->event < 2 * roles

@@ -17,11 +17,13 @@ struct graph {
     struct row reach[EVENTS + 1];
 };
 
+/* Whether a node is in the row. */
 static inline int has(const struct row *row, u32 node)
 {
     return (int)(row->word[node >> 6] >> (node & 63) & 1);
 }
 
+/* A node joins the row. */
 static inline void add(struct row *row, u32 node)
 {
     row->word[node >> 6] |= (u64)1 << (node & 63);

@@ -21,44 +21,49 @@ enum {
     PERIODIC_ROWS = 128,
     TRIGGER_ROWS = 256,
     REQUESTS = 32,
-    PLACES = 4,
+    BODY_EVENTS = 4,
+    BODY_CONDITIONS = 4,
     LONGEST_DELAY = 60,
     LONGEST_PERIOD = 10080,
-    WAIT_ROWS = 61,
-    WAITING = WAIT_ROWS * EVENTS,
+    WAITING_ROWS = 61,
+    WAITING_NUMBERS = WAITING_ROWS * EVENTS,
     LAST_INSTANT = 16777215,
     SHEET_BYTES = 16384,
     INPUT_BYTES = 65536,
-    DAY_LAST = 10080,
+    LONGEST_DAY = 10080,
     REQUEST_LINE = 19,
     TAPE_REQUESTS = INPUT_BYTES / REQUEST_LINE,
     DAY_LINE = 31,
-    OUTPUT_BYTES = (DAY_LAST + 1) * DAY_LINE
+    OUTPUT_BYTES = (LONGEST_DAY + 1) * DAY_LINE
 };
 
 #define NO_END 0xFFFFFFFFu
 
-/* What comes back. */
+/* What comes back: the answers by their numbers. */
 enum name { OK, LENGTH, FRAME, CHECK, KIND, FIELD, TOO_MANY, COUNT, LOOP, REQUEST, LAST };
 
+/* An answer is its name and its place. */
 struct answer {
     enum name name;
     u32 place;
 };
 
+/* A periodic row, in the order of its frame. */
 struct periodic {
     u32 begin, end;
     u16 period, first, run;
     byte event, priority;
 };
 
+/* A trigger; the places past its counts are unused. */
 struct trigger {
     byte events, conditions;
-    byte event[PLACES];
-    byte condition[PLACES];
+    byte event[BODY_EVENTS];
+    byte condition[BODY_CONDITIONS];
     byte head, priority, delay;
 };
 
+/* A request of one instant. */
 struct request {
     byte event, priority, delay;
 };
@@ -98,6 +103,7 @@ struct frame {
     u32 count;
 };
 
+/* An answer of its two parts. */
 static inline struct answer answer(enum name name, u32 place)
 {
     struct answer a;
@@ -107,12 +113,13 @@ static inline struct answer answer(enum name name, u32 place)
     return a;
 }
 
-/* Numbers are high byte first. */
+/* Two bytes as a number, high byte first. */
 static inline u32 number2(const byte *bytes)
 {
     return (u32)bytes[0] << 8 | bytes[1];
 }
 
+/* Four bytes as a number, high byte first. */
 static inline u32 number4(const byte *bytes)
 {
     return number2(bytes) << 16 | number2(bytes + 2);

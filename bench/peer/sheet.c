@@ -28,6 +28,7 @@ static u32 size_of(const struct frame *frame)
     }
 }
 
+/* The header: FIELD. */
 static enum name take_header(struct reading *seen, const byte *fields)
 {
     if (fields[0] != 1 || fields[1] < 1 || fields[1] > ROLES) {
@@ -37,6 +38,7 @@ static enum name take_header(struct reading *seen, const byte *fields)
     return OK;
 }
 
+/* A periodic row: TOO MANY, FIELD. */
 static enum name take_periodic(struct reading *seen, const byte *fields)
 {
     struct periodic *row;
@@ -55,6 +57,7 @@ static enum name take_periodic(struct reading *seen, const byte *fields)
     return periodic_fits(row, seen->roles) ? OK : FIELD;
 }
 
+/* A trigger: TOO MANY, FIELD. Its counts are tested before they fill its places. */
 static enum name take_trigger(struct reading *seen, const byte *fields)
 {
     struct trigger *row;
@@ -64,7 +67,7 @@ static enum name take_trigger(struct reading *seen, const byte *fields)
     if (seen->triggers == TRIGGER_ROWS) {
         return TOO_MANY;
     }
-    if (fields[0] > PLACES || fields[1] > PLACES) {
+    if (fields[0] > BODY_EVENTS || fields[1] > BODY_CONDITIONS) {
         return FIELD;
     }
     row = &seen->trigger[seen->triggers++];
@@ -83,6 +86,7 @@ static enum name take_trigger(struct reading *seen, const byte *fields)
     return trigger_fits(row, seen->roles) ? OK : FIELD;
 }
 
+/* The end: COUNT. */
 static enum name take_end(struct reading *seen, const byte *fields)
 {
     if (fields[0] != seen->periodics || number2(fields + 1) != seen->triggers) {
@@ -112,6 +116,7 @@ static enum name take(struct reading *seen, const struct frame *frame)
     }
 }
 
+/* What passed comes into the lent tables. */
 static void hand_out(const struct reading *seen, struct tables *tables)
 {
     memcpy(tables->periodic, seen->periodic, sizeof seen->periodic);
@@ -124,7 +129,7 @@ static void hand_out(const struct reading *seen, struct tables *tables)
 /* Reads a sheet into the lent tables. After a refusal they hold what they held. */
 struct answer read_sheet(byte *sheet, u32 length, struct tables *tables)
 {
-    struct lines lines = { sheet, sheet + length, 0 };
+    struct lines lines = {sheet, sheet + length, 0};
     struct reading seen;
     struct frame frame;
     struct answer found;

@@ -11,12 +11,14 @@ struct chains {
     u16 later;           /* those with a delay */
 };
 
+/* A trigger comes to the front of a chain. */
 static inline void push(struct chains *chains, u16 *chain, u32 trigger)
 {
     chains->link[trigger] = *chain;
     *chain = (u16)trigger;
 }
 
+/* Takes the first trigger off a chain that is not empty. */
 static inline u32 pop(const struct chains *chains, u16 *chain)
 {
     u32 trigger = *chain;
@@ -98,7 +100,7 @@ static void settle(struct chains *chains, const struct trigger *trigger, u32 lev
 /* The heads with a delay wait in the row of their instant. */
 static void put_off(struct chains *chains, const struct trigger *trigger, struct state *state)
 {
-    u32 now = state->instant % WAIT_ROWS, row;
+    u32 now = state->instant % WAITING_ROWS, row;
 
     while (chains->later != NONE) {
         u32 i = pop(chains, &chains->later);
@@ -107,7 +109,7 @@ static void put_off(struct chains *chains, const struct trigger *trigger, struct
             continue;
         }
         row = now + trigger[i].delay;
-        row = row < WAIT_ROWS ? row : row - WAIT_ROWS;
+        row = row < WAITING_ROWS ? row : row - WAITING_ROWS;
         state->waiting[EVENTS * row + trigger[i].head] |= (u16)(1u << trigger[i].priority);
     }
 }

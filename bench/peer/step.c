@@ -6,7 +6,7 @@ static struct answer judge_counts(const struct tables *tables, u32 requests,
                                   const struct state *state)
 {
     if (tables->periodic_length != PERIODIC_ROWS || tables->trigger_length != TRIGGER_ROWS
-        || state->waiting_length != WAITING || state->events_length != EVENTS) {
+        || state->waiting_length != WAITING_NUMBERS || state->events_length != EVENTS) {
         return answer(LENGTH, 0);
     }
     if (state->instant > LAST_INSTANT) {
@@ -65,6 +65,10 @@ static struct answer judge(const struct tables *tables, const struct request *as
     return found.name == OK ? judge_requests(asked, count, tables->roles) : found;
 }
 
+/*
+ * A periodic row is due at t. NO_END needs no test of its own: as a number it is above every
+ * instant that is stepped.
+ */
 static inline int due(const struct periodic *row, u32 t)
 {
     return row->begin <= t && t <= row->end
@@ -76,7 +80,7 @@ static void give(const struct tables *tables, const struct request *asked, u32 c
                  struct state *state)
 {
     u32 t = state->instant, i;
-    u16 *waited = &state->waiting[EVENTS * (t % WAIT_ROWS)];
+    u16 *waited = &state->waiting[EVENTS * (t % WAITING_ROWS)];
     const struct periodic *row;
 
     memcpy(state->events, waited, EVENTS * sizeof *waited);
@@ -89,7 +93,7 @@ static void give(const struct tables *tables, const struct request *asked, u32 c
     }
     for (i = 0; i < count; i++) {
         u16 *to = asked[i].delay == 0 ? state->events
-            : &state->waiting[EVENTS * ((t + asked[i].delay) % WAIT_ROWS)];
+            : &state->waiting[EVENTS * ((t + asked[i].delay) % WAITING_ROWS)];
 
         to[asked[i].event] |= (u16)(1u << asked[i].priority);
     }

@@ -1,7 +1,7 @@
 /* The reader of a tape. */
 #include "limits.h"
 
-enum { ASK = 0x40, LAST_LINE = 0xF1 };
+enum { ASK = 0x40, TAPE_END = 0xF1 };
 
 /* What was heard so far: the instant of the last request, how many in a row are of it, the end. */
 struct hearing {
@@ -41,13 +41,14 @@ static enum name take_request(struct hearing *heard, const byte *fields, u32 rol
 static enum name take_last(struct hearing *heard, const byte *fields, struct tape *tape)
 {
     tape->last = number4(fields);
-    if (tape->last > DAY_LAST || tape->last < heard->instant) {
+    if (tape->last > LONGEST_DAY || tape->last < heard->instant) {
         return FIELD;
     }
     heard->ended = 1;
     return OK;
 }
 
+/* KIND, and then what the frame's own kind asks. */
 static enum name take(struct hearing *heard, const struct frame *frame, u32 roles,
                       struct tape *tape)
 {
@@ -57,7 +58,7 @@ static enum name take(struct hearing *heard, const struct frame *frame, u32 role
     if (frame->bytes[0] == ASK && frame->count == 9) {
         return take_request(heard, frame->bytes + 1, roles, tape);
     }
-    if (frame->bytes[0] == LAST_LINE && frame->count == 6) {
+    if (frame->bytes[0] == TAPE_END && frame->count == 6) {
         return take_last(heard, frame->bytes + 1, tape);
     }
     return KIND;
@@ -66,7 +67,7 @@ static enum name take(struct hearing *heard, const struct frame *frame, u32 role
 /* Reads a tape, whose lines are counted on from the sheet's. */
 struct answer read_tape(struct lines lines, u32 roles, struct tape *tape)
 {
-    struct hearing heard = { 0, 0, 0 };
+    struct hearing heard = {0, 0, 0};
     struct frame frame;
     enum name name;
 
