@@ -30,7 +30,7 @@ use Rattle.row_judge.specs.Judge.{judgeTables}
 use Rattle.judge.specs.Laws.{judge-refuses-not}
 use Rattle.hand_out.specs.Out.{Outcome, outcome, sheetRead, handed, byLoop, afterLines}
 use Rattle.hand_out.specs.Exact.{outcome-one}
-use Rattle.sheet.specs.Sheet.{start, byStep, lengthsFit, reading}
+use Rattle.sheet.specs.Sheet.{start, byLines, lengthsFit, reading}
 use Rattle.accepted.specs.Laws.SoFar.{SoFar}
 use Rattle.accepted.specs.Laws.Lines.{read-so-far}
 
@@ -79,8 +79,8 @@ module _ (p t : List ℕ) (r : Read) (p′ t′ : List ℕ) where
       record { loopless = ltb-false k PAIRS b; is-read = cc; is-periodic = q .1; is-triggers = q .2 })
       (test (ltb k PAIRS))
 
-  by-reads : (x : Going State) → byStep x p t ≡ accepted → (s : State) × (x ≡ goes s) × From s
-  unfolding byStep
+  by-reads : (x : Going State) → byLines x p t ≡ accepted → (s : State) × (x ≡ goes s) × From s
+  unfolding byLines
   by-reads (goes s) e = (s, refl, by-loop s e)
   by-reads (refused x) e = not-bad x e
 

@@ -2,7 +2,7 @@
 -- Assumes nothing.
 use mathlib.Core.Path.{_≡_, refl, sym, ap, _∙_}
 use mathlib.Core.Logic.{by-cases}
-use mathlib.Core.Bool.{Bool, true, false, _&&_, _||_}
+use mathlib.Core.Bool.{Bool, _&&_, _||_, and-true, and-false, or-false}
 use mathlib.Core.List.{List}
 use Prim.Native.Nat.{ℕ, zero, suc, _+_, _^_, _≤_, _<_}
 use native.Mathlib.Decide.{decLt}
@@ -43,26 +43,13 @@ roles-in ST S (suc n) h k =
     role-joined (rolesBelow ST S n) n k on (omega arith)
     ∙ ap (λ (b : Bool). b || (on && eqb n k)) (roles-in ST S n (omega arith) k)
     ∙ by-cases (decLt k n)
-    (λ (l : k < n). rw (lt-ltb k n l, lt-ltb k (suc n) (omega arith), ne-eqb n k (λ e. omega arith)) (kept (rolesAfter ST S k) on))
+    (λ (l : k < n). rw (lt-ltb k n l, lt-ltb k (suc n) (omega arith), ne-eqb n k (λ e. omega arith)) (ap (λ (b : Bool). rolesAfter ST S k || b) (and-false on) ∙ or-false (rolesAfter ST S k)))
     (λ (l : ¬ (k < n)).
     by-cases (decLt k (suc n))
     (λ (m : k < suc n).
     let e : n ≡ k = omega arith in
-    rw (le-ltb k n (omega arith), lt-ltb k (suc n) m, eq-eqb n k e) (came (rolesAfter ST S k) on (ap (rolesAfter ST S) e)))
-    (λ (m : ¬ (k < suc n)). rw (le-ltb k n (omega arith), le-ltb k (suc n) (omega arith), ne-eqb n k (λ e. omega arith)) (away on)))
-  where
-    kept : (a b : Bool) → (a || (b && false)) ≡ a
-    kept true b = refl
-    kept false true = refl
-    kept false false = refl
-
-    came : (a b : Bool) → b ≡ a → (b && true) ≡ a
-    came a true h = h
-    came a false h = h
-
-    away : (b : Bool) → (b && false) ≡ false
-    away true = refl
-    away false = refl
+    rw (le-ltb k n (omega arith), lt-ltb k (suc n) m, eq-eqb n k e) (and-true on ∙ ap (rolesAfter ST S) e))
+    (λ (m : ¬ (k < suc n)). rw (le-ltb k n (omega arith), le-ltb k (suc n) (omega arith), ne-eqb n k (λ e. omega arith)) (and-false on)))
 
 -- THE LAW: of roles of 64 bits and a buffer's events, these are the roles after
 pub roles-are : (roles : ℕ) (l : List ℕ) → roles < 2 ^ 64 → (r : ℕ) → rolesOf (rolesBelow (rolesOf roles) (eventsOf l) ROLES) r ≡ rolesAfter (rolesOf roles) (eventsOf l) r

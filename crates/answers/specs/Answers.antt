@@ -1,4 +1,5 @@
--- Document 01's table 'What comes back': the number of each answer, and the values that come with it. Every promise about an answer goes through these.
+-- Document 01's table 'What comes back': the number of each answer, and the values that come with it. Contracts speak of verdicts;
+-- what a verdict is in numbers is said here alone: `numberOf` in what a day prints (days/Day), `answered` for `answer_of`.
 -- Assumes nothing.
 use Prim.Native.Nat.{ℕ}
 use Rattle.answers.specs.declared.Name.{Name}

@@ -1,2 +1,3 @@
 -- What the requests of one instant add to the events and to the waiting buffer.
-pub mod Exact
+pub mod Adds
+pub mod Laws

@@ -1,7 +1,7 @@
 ghost use mathlib.Core.Path.{_≡_};
 ghost use Rattle.tables.specs.Asked.{requestAt};
 ghost use Rattle.masks.specs.Joins.{joins};
-ghost use Rattle.requests.specs.Requests.{givenEntry, waitEntry};
+ghost use Rattle.asked.specs.Adds.{givenEntry, waitEntry};
 use basic::index;
 use masks::join_where;
 use requests::request_at;

@@ -10,8 +10,8 @@ use lib.ListN.{length, take, drop, length-drop, length-take, drop-of-length-le}
 use borrow.Author.Tests.{ltb-true}
 use Rattle.theory.specs.Numbers.{REQUESTS}
 use Rattle.theory.specs.Laws.Tests.{and-right}
-use Rattle.text.specs.Lines.{Lines, lines}
-use Rattle.text.specs.Laws.Lines.{span, line-here, endless-here}
+use Rattle.text.specs.Lines.{Lines, lines, span}
+use Rattle.text.specs.Laws.Lines.{line-here, endless-here}
 use Rattle.frames.specs.Frame.{bytesOf}
 use Rattle.requests.specs.Flat.{FLAT-NUMBERS, putAt}
 use Rattle.requests.specs.Laws.Flat.{put-size}

@@ -1,4 +1,3 @@
 -- The requests of one instant in a tape.
 pub mod Batch
 pub mod Laws
-pub mod Exact

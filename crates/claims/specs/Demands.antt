@@ -25,9 +25,8 @@ use Rattle.answers.specs.declared.Refusal.{Refusal}
 use Rattle.answers.specs.declared.Verdict.{Verdict}
 use Rattle.answers.specs.declared.Verdict.the-variants.{Pass, Refuse}
 use Rattle.answers.specs.Answers.{numberOf, answered, refuse}
-use Rattle.tables.specs.Buffers.{eventsOf}
+use Rattle.tables.specs.Buffers.{eventsOf, Narrow}
 use Rattle.tables.specs.Asked.{Asked}
-use Rattle.masks.specs.Laws.Held.{Narrow}
 use Rattle.readings.specs.declared.Read.{Read}
 use Rattle.readings.specs.declared.Reading.the-variants.{Good, Bad}
 use Rattle.line_acts.specs.Acts.{State}
@@ -35,7 +34,7 @@ use Rattle.hand_out.specs.Out.{outcome, sheetRead, handed}
 use Rattle.hand_out.specs.Out as reader
 use Rattle.sheet.specs.Sheet.{reading}
 use Rattle.row_judge.specs.Judge.{Rules, sheetIn}
-use Rattle.requests.specs.Laws.{AllFit}
+use Rattle.requests.specs.Requests.{AllFit}
 use Rattle.step.specs.Outcome.{Lent, Outcome}
 use Rattle.step.specs.Exact
 use Rattle.runs.specs.Runs.{Steps, GoesOn, IsPapers}
@@ -45,7 +44,7 @@ use Rattle.days.specs.declared.Printed.{Printed}
 use Rattle.days.specs.Day.{Prints, DayOutcome}
 use Rattle.examples.specs.Example.{Said}
 use Rattle.examples.specs.Table.{table, all-say}
-use Rattle.claims.specs.Words.{InOrder, Ordered, SolvesFor, countIn, noPeriodics, noTriggers, looped, workedSheet, worked, asked}
+use Rattle.claims.specs.Words.{ReadsInOrder, Ordered, SolvesFor, countIn, noPeriodics, noTriggers, looped, workedSheet, worked, asked}
 use Rattle.claims.specs.Laws.Numbers
 use Rattle.claims.specs.Laws.Reader
 use Rattle.claims.specs.Laws.Step
@@ -63,7 +62,7 @@ pub numbers-are : (n : ℕ) → 1 ≤ n → n ≤ 10 → ExactlyOne (λ (name : 
 numbers-are n l m = let x = Numbers.number-each n l m in (x .0, x .1, λ other e. Numbers.number-once other (x .0) (e ∙ sym (x .1)))
 
 pub no-other : (name : Name) → (1 ≤ numberOf name) × (numberOf name ≤ 10)
-no-other = Numbers.some-number
+no-other = Numbers.no-other
 
 -- Any bytes as a sheet, with any two lent tables, have exactly one outcome: an answer, and what the tables hold then.
 pub reader-total : (sheet p t : List ℕ) → ExactlyOne (λ (o : reader.Outcome). o ≡ reading sheet p t)
@@ -75,7 +74,7 @@ reader-keeps = Reader.reader-keeps
 
 -- Any lent tables and counts, any requests, any instant, roles of 64 bits and buffers of 16-bit numbers, of whatever lengths, have exactly one outcome: an answer, and what is lent then.
 pub step-total : (R : Rules) (q : Asked) (l : Lent) → l .roles < 2 ^ 64 → Narrow 16 (l .waiting) → ExactlyOne (λ (o : Verdict × Lent). Outcome R q l (o .0) (o .1))
-step-total = There.step-there
+step-total = There.step-total
 
 -- After a refusal the instant, the roles and both buffers are what they were. (The tables are lent to be read only.)
 pub step-keeps : (R : Rules) (q : Asked) (l a : Lent) (r : Refusal) → Outcome R q l (Refuse r) a → a ≡ l
@@ -83,7 +82,7 @@ step-keeps R q l a r o = o .refused r refl
 
 -- Any input, with any lent buffer, has exactly one outcome: an answer with the number of bytes printed, and what the buffer holds then.
 pub day-total : (input out : List ℕ) → ExactlyOne (λ (o : Printed × List ℕ). DayOutcome input out (o .0) (o .1))
-day-total = There.outcome-there
+day-total = There.day-total
 
 -- ==== DEMAND 2, EXACT: a sheet in good order is refused for a loop exactly when its graph has a cycle with a negative edge.
 
@@ -96,16 +95,16 @@ loop-or-none sh good =
     (Loop.loop-or sh (OneSolution.good-heads sh good))
 
 -- Bytes that read in good order to their end are such a sheet.
-pub reader-order : (sheet p t : List ℕ) (s : State) → InOrder sheet p t s → GoodOrder (sheetRead s)
-reader-order = Reader.order-good
+pub reader-order : (sheet p t : List ℕ) (s : State) → ReadsInOrder sheet p t s → GoodOrder (sheetRead s)
+reader-order = Reader.reader-order
 
 -- The reader refuses bytes with LOOP at k exactly when they read in good order and their loop is at k,
-pub reader-loops : (sheet p t : List ℕ) (k : ℕ) → (reading sheet p t ≡ outcome (Bad (record { name = LOOP; place = k })) p t) ↔ ((s : State) × InOrder sheet p t s × LoopAt (sheetRead s) k)
+pub reader-loops : (sheet p t : List ℕ) (k : ℕ) → (reading sheet p t ≡ outcome (Bad (record { name = LOOP; place = k })) p t) ↔ ((s : State) × ReadsInOrder sheet p t s × LoopAt (sheetRead s) k)
 reader-loops = Reader.reader-loops
 
 -- and accepts them exactly when they read in good order and have none; then it hands out what was read.
 pub reader-accepts : (sheet p t : List ℕ) (r : Read) (p′ t′ : List ℕ) → (reading sheet p t ≡ outcome (Good r) p′ t′)
-    ↔ ((s : State) × InOrder sheet p t s × NoLoop (sheetRead s) × (outcome (Good (handed (s .seen))) (s .periodic) (s .triggers) ≡ outcome (Good r) p′ t′))
+    ↔ ((s : State) × ReadsInOrder sheet p t s × NoLoop (sheetRead s) × (outcome (Good (handed (s .seen))) (s .periodic) (s .triggers) ≡ outcome (Good r) p′ t′))
 reader-accepts = Reader.reader-accepts
 
 -- A step answers LOOP at k exactly when all that is tested before it is in order and the loop of the lent rows is at k,
@@ -113,8 +112,8 @@ pub step-loops : (R : Rules) (q : Asked) (l : Lent) (v : Verdict) (a : Lent) →
 step-loops R q l v a o k = let x = Step.step-loops R q l k in ((λ e. x .0 (sym (o .judged) ∙ e)), (λ y. o .judged ∙ x .1 y))
 
 -- and OK exactly when that is in order, there is no loop, and each request is within its limits.
-pub step-accepts : (R : Rules) (q : Asked) (l : Lent) (v : Verdict) (a : Lent) → Outcome R q l v a → (v ≡ Pass) ↔ (Ordered R q l × NoLoop (sheetIn R) × AllFit (R .roleCount) q)
-step-accepts R q l v a o = let x = Step.step-passes-says R q l in ((λ e. x .0 (sym (o .judged) ∙ e)), (λ y. o .judged ∙ x .1 y))
+pub step-ok : (R : Rules) (q : Asked) (l : Lent) (v : Verdict) (a : Lent) → Outcome R q l v a → (v ≡ Pass) ↔ (Ordered R q l × NoLoop (sheetIn R) × AllFit (R .roleCount) q)
+step-ok R q l v a o = let x = Step.step-passes-says R q l in ((λ e. x .0 (sym (o .judged) ∙ e)), (λ y. o .judged ∙ x .1 y))
 
 -- From the empty start, over any run of accepted steps under one sheet, events and roles are the paper's: whatever requests come later, there is exactly one canonical execution model
 -- (004, definitions 3.7 to 3.9), and the steps agree with it in the events of each instant and in the roles before and after it.
@@ -133,13 +132,13 @@ pub step-hands-it-out : (R : Rules) (q : Asked) (l a : Lent) → Outcome R q l P
 step-hands-it-out = Exact.step-solves
 
 -- And exactly one buffer of 128 numbers of 16 bits holds it.
-pub one-buffer : (R : Rules) → GoodOrder (sheetIn R) → NoLoop (sheetIn R) → (q : Asked) → AllFit (R .roleCount) q → (l : Lent) → Narrow 16 (l .waiting)
+pub one-buffer-holds-it : (R : Rules) → GoodOrder (sheetIn R) → NoLoop (sheetIn R) → (q : Asked) → AllFit (R .roleCount) q → (l : Lent) → Narrow 16 (l .waiting)
     → ExactlyOne (λ (b : List ℕ). (length b ≡ EVENTS) × Narrow 16 b × SolvesFor R q l (eventsOf b))
-one-buffer = Exact.one-buffer-served
+one-buffer-holds-it = Exact.one-buffer-served
 
 -- ==== THE DAY: an input prints exactly one thing, the refusal, or the lines of the paper's canonical execution model of its sheet and its tape (`Prints`).
 pub one-day : (input : List ℕ) → ExactlyOne (Prints (opening input))
-one-day = There.day-there
+one-day = There.one-day
 
 -- ==== THE P TABLE: every bench example that document 01 marks P says what is true.
 pub p-table : Said table
@@ -153,19 +152,19 @@ not-all-refused = Shut.is-worked .read
 
 -- A test that passes everything: "enable 0 gives disable 0" is refused with LOOP at place 0.
 pub not-all-passed : reading looped noPeriodics noTriggers ≡ outcome (Bad (record { name = LOOP; place = 0 })) noPeriodics noTriggers
-not-all-passed = Looped.refuses-looped
+not-all-passed = Looped.not-all-passed
 
 -- The first two minutes of the worked input can be run,
 pub minutes-run : (before : ℕ → Lent) × (after : ℕ → Lent) × Steps 2 worked asked before after
-minutes-run = Shut.run-there
+minutes-run = Shut.minutes-run
 
 -- and in any run of them: a step with one fixed set, or a box right at its first instant that afterwards repeats itself, has the wrong events,
 pub not-one-set : (before after : ℕ → Lent) → Steps 2 worked asked before after → after 0 .events ≡ after 1 .events → ⊥
-not-one-set = Shut.sets-differ
+not-one-set = Shut.not-one-set
 
 -- a step that leaves the roles as they were has the wrong roles,
 pub not-same-roles : (before after : ℕ → Lent) → Steps 2 worked asked before after → before 1 .roles ≡ after 1 .roles → ⊥
-not-same-roles = Shut.roles-differ
+not-same-roles = Shut.not-same-roles
 
 -- and in no step does the instant stay.
 pub not-same-instant : (R : Rules) (q : Asked) (l a : Lent) → Outcome R q l Pass a → a .instant ≡ suc (l .instant)
@@ -177,4 +176,4 @@ count-is-the-solutions R q l a o S s = sym (ap countIn (Exact.step-solves R q l 
 
 -- in the worked input's first two minutes 0, then 2.
 pub counts-are : (before after : ℕ → Lent) → Steps 2 worked asked before after → (countIn (eventsOf (after 0 .events)) ≡ 0) × (countIn (eventsOf (after 1 .events)) ≡ 2)
-counts-are = Shut.counts-differ
+counts-are = Shut.counts-are

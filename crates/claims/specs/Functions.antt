@@ -1,6 +1,7 @@
 -- EVERY PUBLIC FUNCTION IS EXACT: its contract leaves one possible answer and one possible content of every lent buffer, so any two outcomes that it allows are equal. In the order of
--- crates.txt, each function's name, its contract in the words of its `ensures` (x is what is lent as x, x′ the same at the end), and the theorem of its crate. The gate holds the list to the
--- code, by `tools/listed`: every public function and the words of its contract stand here. At the end are those that ask something of their callers, and the exceptions.
+-- crates.txt, each function's name, its contract in the words of its `ensures` (x is what is lent as x, x′ the same at the end), and its proof: `exact` where the contract is an
+-- equation, else the theorem of its crate. The gate holds the list to the code, by `tools/listed`: every public function and the words of its contract stand here. At the end are those that ask
+-- something of their callers, and the exceptions.
 -- Assumes nothing.
 use mathlib.Core.Path.{_≡_, ap}
 use mathlib.Core.Bool.{Bool, _&&_, _||_}
@@ -12,11 +13,12 @@ use lib.Seq.{paste}
 use Rattle.theory.specs.Agreed.{limits}
 use Rattle.theory.specs.Below.{anyBelow, countBelow, one}
 use Rattle.theory.specs.Events.{conf, nonblocked}
-use Rattle.theory.specs.Graph.{Levels, node}
+use Rattle.theory.specs.Graph.{Levels, counts, node}
 use Rattle.theory.specs.Instant.{allows, met}
 use Rattle.theory.specs.LoopTest.{through}
 use Rattle.theory.specs.Numbers.{EVENTS, ROLES}
 use Rattle.theory.specs.Sheet.{GoodOrder, ofRoles, periodicFits, triggerFits}
+use Rattle.theory.specs.Laws.Exact.{exact}
 use Rattle.answers.specs.declared.Name.{Name}
 use Rattle.answers.specs.declared.Verdict.{Verdict}
 use Rattle.answers.specs.Answers.{answered, numberOf}
@@ -40,11 +42,10 @@ use Rattle.loops.specs.Tested.{tested}
 use Rattle.row_judge.specs.Judge.{judgeRows, rules}
 use Rattle.judge.specs.Judged.{judged, loopVerdict}
 use Rattle.text.specs.Framed.{framed}
-use Rattle.text.specs.Laws.Lines.{span}
-use Rattle.text.specs.Lines.{lines}
+use Rattle.text.specs.Lines.{lines, span}
 use Rattle.frames.specs.Frame.{bytesOf, checked}
-use Rattle.printed_frames.specs.Frames.{minuteFrame, refusalFrame}
 use Rattle.prints.specs.Print.{lineOf}
+use Rattle.printed_frames.specs.Frames.{minuteFrame, refusalFrame}
 use Rattle.walks.specs.Walks.{goes}
 use Rattle.periodic_frames.specs.Row.{periodicRow}
 use Rattle.trigger_frames.specs.Row.{triggerRow}
@@ -64,7 +65,8 @@ use Rattle.hand_out.specs.Out.{afterLines, outcome}
 use Rattle.sheet.specs.Sheet.{reading}
 use Rattle.requests.specs.declared.Request.{Request}
 use Rattle.requests.specs.Asked.{requestOf}
-use Rattle.requests.specs.Requests.{fits, givenEntry, judgeRequests, waitEntry}
+use Rattle.requests.specs.Requests.{fits, judgeRequests}
+use Rattle.asked.specs.Adds.{givenEntry, waitEntry}
 use Rattle.order.specs.Order.{exactLengths, judgeFirst}
 use Rattle.minute.specs.Minute.{Acted}
 use Rattle.step.specs.Outcome.{Lent, Outcome, lent}
@@ -80,54 +82,21 @@ use Rattle.openings.specs.Planned.{opened, planned}
 use Rattle.day_minute.specs.Minute.{MinuteOutcome}
 use Rattle.days.specs.Day.{DayOutcome}
 use Rattle.lines.specs.Laws.Took
-use Rattle.theory.specs.Laws.Exact as theory
-use Rattle.answers.specs.Exact as answers
-use Rattle.basic.specs.Exact as basic
-use Rattle.tables.specs.Exact as tables
 use Rattle.periodics.specs.Exact as periodics
-use Rattle.triggers.specs.Exact as triggers
-use Rattle.limits.specs.Exact as limits
-use Rattle.trigger_limits.specs.Exact as trigger-limits
-use Rattle.masks.specs.Exact as masks
-use Rattle.live.specs.Exact as live
-use Rattle.roles.specs.Exact as roles
-use Rattle.bodies.specs.Exact as bodies
-use Rattle.due.specs.Exact as due
 use Rattle.solver.specs.Exact as solver
-use Rattle.waiting.specs.Exact as Waiting
-use Rattle.after.specs.Exact as After
 use Rattle.rows.specs.Exact as Rows
 use Rattle.reach.specs.Exact as reach
 use Rattle.edges.specs.Exact as edges
-use Rattle.loops.specs.Exact as loops
-use Rattle.row_judge.specs.Exact as row-judge
-use Rattle.judge.specs.Exact as judge
-use Rattle.text.specs.Laws.Exact as text
-use Rattle.frames.specs.Laws.Exact as frames
-use Rattle.printed_frames.specs.Exact as printed-frames
-use Rattle.prints.specs.Exact as prints
-use Rattle.periodic_frames.specs.Exact as periodic-frames
-use Rattle.trigger_frames.specs.Exact as trigger-frames
-use Rattle.kinds.specs.Exact as kinds
-use Rattle.row_counts.specs.Exact as row-counts
-use Rattle.fields.specs.Exact as fields
-use Rattle.line_tests.specs.Exact as line-tests
 use Rattle.line_acts.specs.Exact as line-acts
 use Rattle.lines.specs.Exact as Lines
-use Rattle.readings.specs.Exact as readings
 use Rattle.hand_out.specs.Exact as hand-out
 use Rattle.sheet.specs.Laws.Exact as sheet
 use Rattle.requests.specs.Exact as requests
-use Rattle.asked.specs.Exact as asked
-use Rattle.order.specs.Exact as order
 use Rattle.minute.specs.Exact as minute
 use Rattle.step.specs.Exact as Step
 use Rattle.entry.specs.Exact as entry
 use Rattle.tape_frames.specs.Exact as tape-frames
-use Rattle.tape_tests.specs.Exact as tape-tests
 use Rattle.tape.specs.Exact as tape
-use Rattle.split.specs.Exact as split
-use Rattle.batches.specs.Exact as batches
 use Rattle.openings.specs.Exact as openings
 use Rattle.day_minute.specs.Exact as day-minute
 use Rattle.days.specs.Exact as days
@@ -159,69 +128,69 @@ parts C x r r′ t t′ roles roles′ w w′ v v′ h h′ =
 
 -- theory::agreed_limits
 pub theory-agreed-limits : Exact (λ r. r ≡ limits)
-theory-agreed-limits = theory.agreed-limits-exact
+theory-agreed-limits r r′ = exact
 
 -- ---- answers
 
 -- answers::number_of
 pub answers-number-of : (name : Name) → Exact (λ r. r ≡ numberOf name)
-answers-number-of = answers.number-of-exact
+answers-number-of name r r′ = exact
 
 -- answers::answer_of
 pub answers-answer-of : (verdict : Verdict) → Exact (λ r. r ≡ answered verdict)
-answers-answer-of = answers.answer-of-exact
+answers-answer-of verdict r r′ = exact
 
 -- ---- basic
 
 -- basic::both
 pub basic-both : (a b : Bool) → Exact (λ r. r ≡ (a && b))
-basic-both = basic.both-exact
+basic-both a b r r′ = exact
 
 -- basic::either
 pub basic-either : (a b : Bool) → Exact (λ r. r ≡ (a || b))
-basic-either = basic.either-exact
+basic-either a b r r′ = exact
 
 -- basic::wide
 pub basic-wide : (x : ℕ) → Exact (λ r. r ≡ x)
-basic-wide = basic.widened-exact
+basic-wide x r r′ = exact
 
 -- basic::index
 pub basic-index : (x : ℕ) → Exact (λ r. r ≡ x)
-basic-index = basic.widened-exact
+basic-index x r r′ = exact
 
 -- basic::row_index
 pub basic-row-index : (row : ℕ) → Exact (λ r. r ≡ row)
-basic-row-index = basic.widened-exact
+basic-row-index row r r′ = exact
 
 -- basic::long
 pub basic-long : (x : ℕ) → Exact (λ r. r ≡ x)
-basic-long = basic.widened-exact
+basic-long x r r′ = exact
 
 -- basic::one
 pub basic-one : (t : Bool) → Exact (λ r. (r ≡ one t) × (r < 2))
-basic-one t r r′ h h′ = basic.one-exact t r r′ (h .0) (h′ .0)
+basic-one t r r′ h h′ = exact (h .0) (h′ .0)
 
 -- basic::conflict
 pub basic-conflict : (e : ℕ) → Exact (λ r. r ≡ conf e)
-basic-conflict = basic.conflict-exact
+basic-conflict e r r′ = exact
 
 -- ---- tables
 
 -- tables::agreed_sizes
 pub tables-agreed-sizes : Exact (λ r. r ≡ sizes)
-tables-agreed-sizes = tables.agreed-sizes-exact
+tables-agreed-sizes r r′ = exact
 
 -- tables::byte
 pub tables-byte : (table : List ℕ) (i : ℕ) → Exact (λ r. r ≡ byteAt table i)
-tables-byte = tables.byte-exact
+tables-byte table i r r′ = exact
 
 -- tables::trigger_byte
 pub tables-trigger-byte : (table : List ℕ) (i k : ℕ) → Exact (λ r. r ≡ byteAt table (TRIGGER-BYTES * i + k))
-tables-trigger-byte = tables.trigger-byte-exact
+tables-trigger-byte table i k r r′ = exact
 
 -- tables::copy_in
 pub tables-copy-in : (table : List ℕ) (at : ℕ) (row : List ℕ) → Exact (λ table′. table′ ≡ paste table at row (length row))
-tables-copy-in table at row = tables.copy-in-exact table row at
+tables-copy-in table at row l l′ = exact
 
 -- ---- periodics
 
@@ -233,81 +202,85 @@ periodics-periodic-row = periodics.periodic-row-exact
 
 -- triggers::event
 pub triggers-event : (triggers : List ℕ) (i j : ℕ) → Exact (λ r. r ≡ triggerAt triggers i .event j)
-triggers-event = triggers.place-exact (λ g. g .event)
+triggers-event triggers i j r r′ = exact
 
 -- triggers::condition
 pub triggers-condition : (triggers : List ℕ) (i j : ℕ) → Exact (λ r. r ≡ triggerAt triggers i .condition j)
-triggers-condition = triggers.place-exact (λ g. g .condition)
+triggers-condition triggers i j r r′ = exact
+
+-- triggers::counts_at
+pub triggers-counts-at : (triggers : List ℕ) (i : ℕ) → Exact (λ r. ((n : ℕ) → r ≡ counts (triggersOf n triggers) i))
+triggers-counts-at triggers i r r′ h h′ = exact (h 0) (h′ 0)
 
 -- ---- limits
 
 -- limits::of_roles
 pub limits-of-roles : (roles e : ℕ) → Exact (λ r. r ≡ ofRoles roles e)
-limits-of-roles = limits.of-roles-exact
+limits-of-roles roles e r r′ = exact
 
 -- limits::periodic_fits
 pub limits-periodic-fits : (w : PeriodicRow) (roles : ℕ) → Exact (λ r. r ≡ periodicFits roles (periodicOf w))
-limits-periodic-fits = limits.periodic-fits-exact
+limits-periodic-fits w roles r r′ = exact
 
 -- ---- trigger_limits
 
 -- trigger_limits::trigger_fits
 pub trigger-limits-trigger-fits : (table : List ℕ) (i roles : ℕ) → Exact (λ r. r ≡ triggerFits roles (triggerAt table i))
-trigger-limits-trigger-fits = trigger-limits.trigger-fits-exact
+trigger-limits-trigger-fits table i roles r r′ = exact
 
 -- ---- masks
 
 -- masks::number
 pub masks-number : (buffer : List ℕ) (i : ℕ) → Exact (λ r. r ≡ getD buffer i 0)
-masks-number = masks.number-exact
+masks-number buffer i r r′ = exact
 
 -- masks::has
 pub masks-has : (mask p : ℕ) → Exact (λ r. r ≡ bit mask p)
-masks-has = masks.has-exact
+masks-has mask p r r′ = exact
 
 -- masks::join
 pub masks-join : (buffer : List ℕ) (at p : ℕ) → Exact (λ buffer′. buffer′ ≡ joinedAt buffer at p)
-masks-join = masks.join-exact
+masks-join buffer at p l l′ = exact
 
 -- masks::join_where
 pub masks-join-where : (buffer : List ℕ) (on : Bool) (at p : ℕ) → Exact (λ buffer′. buffer′ ≡ joinedWhere buffer (record { on = on; at = at; priority = p }))
-masks-join-where buffer on at p = masks.join-where-exact buffer (record { on = on; at = at; priority = p })
+masks-join-where buffer on at p l l′ = exact
 
 -- masks::store
 pub masks-store : (buffer : List ℕ) (at v : ℕ) → Exact (λ buffer′. buffer′ ≡ set buffer at v)
-masks-store = masks.store-exact
+masks-store buffer at v l l′ = exact
 
 -- ---- live
 
 -- live::live
 pub live-live : (events : List ℕ) (e : ℕ) → Exact (λ r. r ≡ nonblocked (eventsOf events) (eventsOf events) e)
-live-live = live.live-exact
+live-live events e r r′ = exact
 
 -- ---- roles
 
 -- roles::role_on
 pub roles-role-on : (roles r : ℕ) → Exact (λ on. on ≡ bit roles r)
-roles-role-on = roles.role-on-exact
+roles-role-on roles r on on′ = exact
 
 -- roles::with_role
 pub roles-with-role : (roles r : ℕ) (on : Bool) → Exact (λ s. s ≡ withRole roles r on)
-roles-with-role = roles.with-role-exact
+roles-with-role roles r on s s′ = exact
 
 -- ---- bodies
 
 -- bodies::allows
 pub bodies-allows : (triggers : List ℕ) (i roles : ℕ) → Exact (λ r. r ≡ allows (rolesOf roles) (triggerAt triggers i))
-bodies-allows = bodies.allows-exact
+bodies-allows triggers i roles r r′ = exact
 
 -- bodies::met
 pub bodies-met : (events triggers : List ℕ) (i : ℕ) → Exact (λ r. r ≡ met (eventsOf events) (eventsOf events) (triggerAt triggers i))
-bodies-met = bodies.met-exact
+bodies-met events triggers i r r′ = exact
 
 -- ---- due
 
 -- due::add_due
 pub due-add-due : (events periodics : List ℕ) (n t : ℕ) → Exact (λ events′. events′ ≡ joins events n (dueAt periodics t))
-due-add-due = due.add-due-exact
+due-add-due events periodics n t l l′ = exact
 
 -- ---- solver
 
@@ -320,36 +293,36 @@ solver-solve events levels triggers n roles roleCount periodicCount periodics si
 
 -- waiting::place
 pub waiting-place : (t d e : ℕ) → Exact (λ r. r ≡ placeOf (t + d) e)
-waiting-place = Waiting.place-exact
+waiting-place t d e r r′ = exact
 
 -- waiting::copy_row
 pub waiting-copy-row : (events waiting : List ℕ) (t : ℕ) → Exact (λ events′. events′ ≡ copied events waiting t)
-waiting-copy-row = Waiting.copy-row-exact
+waiting-copy-row events waiting t l l′ = exact
 
 -- waiting::clear_row
 pub waiting-clear-row : (waiting : List ℕ) (t : ℕ) → Exact (λ waiting′. waiting′ ≡ cleared waiting t)
-waiting-clear-row = Waiting.clear-row-exact
+waiting-clear-row waiting t l l′ = exact
 
 -- waiting::wait_triggers
 pub waiting-wait-triggers : (waiting events triggers : List ℕ) (n roles t : ℕ)
     → Exact (λ waiting′. waiting′ ≡ joins waiting n (λ i. triggerEntry (rolesOf roles) (eventsOf events) t (triggerAt triggers i)))
-waiting-wait-triggers waiting events triggers n roles t = Waiting.wait-triggers-exact waiting triggers n t (rolesOf roles) (eventsOf events)
+waiting-wait-triggers waiting events triggers n roles t l l′ = exact
 
 -- ---- after
 
 -- after::roles_after
 pub after-roles-after : (roles : ℕ) (events : List ℕ) → Exact (λ r. r ≡ rolesBelow (rolesOf roles) (eventsOf events) ROLES)
-after-roles-after roles events = After.roles-after-exact (rolesOf roles) (eventsOf events)
+after-roles-after roles events r r′ = exact
 
 -- after::count
 pub after-count : (events : List ℕ) → Exact (λ r. r ≡ countBelow EVENTS (nonblocked (eventsOf events) (eventsOf events)))
-after-count events = After.count-exact (eventsOf events)
+after-count events r r′ = exact
 
 -- ---- rows
 
 -- rows::reaches
 pub rows-reaches : (row : Row) (b : ℕ) → Exact (λ r. r ≡ reaches row b)
-rows-reaches = Rows.reaches-exact
+rows-reaches row b r r′ = exact
 
 -- rows::with
 pub rows-with : (row : Row) (b : ℕ) (on : Bool) → whole row → Exact (λ row′. ((f : ℕ → Bool) → RowIs f row → RowIs (λ x. f x || (on && eqb b x)) row′))
@@ -361,11 +334,11 @@ rows-joined x y h k r r′ = Rows.joined-exact x y r r′ h k
 
 -- rows::some
 pub rows-some : (row : Row) → Exact (λ r. r ≡ anyBelow EVENTS (reaches row))
-rows-some = Rows.some-exact
+rows-some row r r′ = exact
 
 -- rows::leads
 pub rows-leads : (rows : List Row) (a b : ℕ) → Exact (λ r. r ≡ edgesOf rows a b)
-rows-leads = Rows.leads-exact
+rows-leads rows a b r r′ = exact
 
 -- rows::link
 pub rows-link : (rows : List Row) (a b : ℕ) (on : Bool) → wholeRows rows → Exact (λ rows′. Become (linked on a b) rows rows′)
@@ -391,104 +364,104 @@ edges-drawn given triggers n heads negative h r r′ = edges.drawn-exact (trigge
 
 -- loops::loop_test
 pub loops-loop-test : (triggers : List ℕ) (n : ℕ) → Exact (λ r. r ≡ tested (triggersOf n triggers))
-loops-loop-test = loops.loop-test-exact
+loops-loop-test triggers n r r′ = exact
 
 -- ---- row_judge
 
 -- row_judge::rows_judged
 pub row-judge-rows-judged : (roles p t : ℕ) (periodics triggers : List ℕ) → Exact (λ r. r ≡ judgeRows (sheetOf roles p t periodics triggers))
-row-judge-rows-judged = row-judge.rows-judged-exact
+row-judge-rows-judged roles p t periodics triggers r r′ = exact
 
 -- ---- judge
 
 -- judge::loop_verdict
 pub judge-loop-verdict : (found : Found) → Exact (λ r. r ≡ loopVerdict found)
-judge-loop-verdict = judge.loop-verdict-exact
+judge-loop-verdict found r r′ = exact
 
 -- judge::judge
 pub judge-judge : (roles «periodic_count» «trigger_count» : ℕ) (periodics triggers : List ℕ)
     → Exact (λ r. r ≡ judged (sheetOf roles «periodic_count» «trigger_count» periodics triggers))
-judge-judge = judge.judge-exact
+judge-judge roles «periodic_count» «trigger_count» periodics triggers r r′ = exact
 
 -- ---- text
 
 -- text::line_end
 pub text-line-end : (text : List ℕ) (at : ℕ) → Exact (λ r. r ≡ at + span (drop at text))
-text-line-end = text.line-end-exact
+text-line-end text at r r′ = exact
 
 -- text::is_framed
 pub text-is-framed : (line : List ℕ) → Exact (λ r. r ≡ framed line)
-text-is-framed = text.is-framed-exact
+text-is-framed line r r′ = exact
 
 -- ---- frames
 
 -- frames::byte_at
 pub frames-byte-at : (line : List ℕ) (i : ℕ) → Exact (λ r. r ≡ getD (bytesOf line) i 0)
-frames-byte-at = frames.byte-at-exact
+frames-byte-at line i r r′ = exact
 
 -- frames::count
 pub frames-count : (line : List ℕ) → Exact (λ r. r ≡ length (bytesOf line))
-frames-count = frames.count-exact
+frames-count line r r′ = exact
 
 -- frames::is_checked
 pub frames-is-checked : (line : List ℕ) → Exact (λ r. r ≡ checked (bytesOf line))
-frames-is-checked = frames.is-checked-exact
-
--- ---- printed_frames
-
--- printed_frames::minute_frame
-pub printed-frames-minute-frame : (instant roles count : ℕ) → Exact (λ r. r ≡ minuteFrame instant roles count)
-printed-frames-minute-frame = printed-frames.minute-frame-exact
-
--- printed_frames::refusal_frame
-pub printed-frames-refusal-frame : (number place : ℕ) → Exact (λ r. r ≡ refusalFrame number place)
-printed-frames-refusal-frame = printed-frames.refusal-frame-exact
+frames-is-checked line r r′ = exact
 
 -- ---- prints
 
 -- prints::put_line
 pub prints-put-line : (out : List ℕ) (at : ℕ) (frame : List ℕ) → Exact (λ out′. out′ ≡ paste out at (lineOf frame) (length (lineOf frame)))
-prints-put-line out at frame = prints.put-line-exact out frame at
+prints-put-line out at frame l l′ = exact
+
+-- ---- printed_frames
+
+-- printed_frames::minute_frame
+pub printed-frames-minute-frame : (instant roles count : ℕ) → Exact (λ r. r ≡ minuteFrame instant roles count)
+printed-frames-minute-frame instant roles count r r′ = exact
+
+-- printed_frames::refusal_frame
+pub printed-frames-refusal-frame : (number place : ℕ) → Exact (λ r. r ≡ refusalFrame number place)
+printed-frames-refusal-frame number place r r′ = exact
 
 -- ---- periodic_frames
 
 -- periodic_frames::periodic_row
 pub periodic-frames-periodic-row : (line : List ℕ) → Exact (λ r. r ≡ periodicRow (bytesOf line))
-periodic-frames-periodic-row = periodic-frames.periodic-row-exact
+periodic-frames-periodic-row line r r′ = exact
 
 -- ---- trigger_frames
 
 -- trigger_frames::trigger_row
 pub trigger-frames-trigger-row : (line : List ℕ) → Exact (λ r. r ≡ triggerRow (bytesOf line))
-trigger-frames-trigger-row = trigger-frames.trigger-row-exact
+trigger-frames-trigger-row line r r′ = exact
 
 -- ---- kinds
 
 -- kinds::is_kind
 pub kinds-is-kind : (line : List ℕ) (stage : Stage) (k : ℕ) → Exact (λ r. r ≡ (sized (bytesOf line) && mayStand stage k))
-kinds-is-kind = kinds.is-kind-exact
+kinds-is-kind line stage k r r′ = exact
 
 -- ---- row_counts
 
 -- row_counts::has_room
 pub row-counts-has-room : (k periodics triggers : ℕ) → Exact (λ r. r ≡ roomFor k periodics triggers)
-row-counts-has-room = row-counts.has-room-exact
+row-counts-has-room k periodics triggers r r′ = exact
 
 -- row_counts::end_agrees
 pub row-counts-end-agrees : (line : List ℕ) (k periodics triggers : ℕ) → Exact (λ r. r ≡ countsAgree k (byteAt (bytesOf line) 1) (two (bytesOf line) 2) periodics triggers)
-row-counts-end-agrees = row-counts.end-agrees-exact
+row-counts-end-agrees line k periodics triggers r r′ = exact
 
 -- ---- fields
 
 -- fields::frame_fits
 pub fields-frame-fits : (k roles : ℕ) (line : List ℕ) → Exact (λ r. r ≡ frameFits k roles (bytesOf line))
-fields-frame-fits = fields.frame-fits-exact
+fields-frame-fits k roles line r r′ = exact
 
 -- ---- line_tests
 
 -- line_tests::line_judged
 pub line-tests-line-judged : (line : List ℕ) (s : Seen) (place : ℕ) → Exact (λ r. r ≡ judgeLine place s line)
-line-tests-line-judged = line-tests.line-judged-exact
+line-tests-line-judged line s place r r′ = exact
 
 -- ---- line_acts
 
@@ -509,7 +482,7 @@ lines-read-lines = Lines.read-lines-exact
 
 -- readings::verdict_of
 pub readings-verdict-of : (reading : Reading) → Exact (λ r. r ≡ verdictOf reading)
-readings-verdict-of = readings.verdict-of-exact
+readings-verdict-of reading r r′ = exact
 
 -- ---- hand_out
 
@@ -532,27 +505,27 @@ requests-request-at = requests.request-at-exact
 
 -- requests::request_fits
 pub requests-request-fits : (roles : ℕ) (r : Request) → Exact (λ t. t ≡ fits roles (requestOf r))
-requests-request-fits = requests.request-fits-exact
+requests-request-fits roles r t t′ = exact
 
 -- requests::judge_requests
 pub requests-judge-requests : (roles : ℕ) (asked : List ℕ) (n : ℕ) → Exact (λ r. r ≡ judgeRequests roles (flat asked n))
-requests-judge-requests = requests.judge-requests-exact
+requests-judge-requests roles asked n r r′ = exact
 
 -- ---- asked
 
 -- asked::add_asked
 pub asked-add-asked : (events asked : List ℕ) (n : ℕ) → Exact (λ events′. events′ ≡ joins events n (λ k. givenEntry (requestAt asked k)))
-asked-add-asked = asked.add-asked-exact
+asked-add-asked events asked n l l′ = exact
 
 -- asked::wait_asked
 pub asked-wait-asked : (waiting asked : List ℕ) (n t : ℕ) → Exact (λ waiting′. waiting′ ≡ joins waiting n (λ k. waitEntry t (requestAt asked k)))
-asked-wait-asked = asked.wait-asked-exact
+asked-wait-asked waiting asked n t l l′ = exact
 
 -- ---- order
 
 -- order::judge_first
 pub order-judge-first : (periodics triggers waiting events t n : ℕ) → Exact (λ r. r ≡ judgeFirst (exactLengths periodics triggers waiting events) t n)
-order-judge-first = order.judge-first-exact
+order-judge-first periodics triggers waiting events t n r r′ = exact
 
 -- ---- minute
 
@@ -579,7 +552,7 @@ entry-step-requests roles «periodic_count» «trigger_count» periodics trigger
 
 -- tape_frames::instant_of
 pub tape-frames-instant-of : (line : List ℕ) → Exact (λ r. r ≡ instantOf (bytesOf line))
-tape-frames-instant-of = tape-frames.instant-of-exact
+tape-frames-instant-of line r r′ = exact
 
 -- tape_frames::asked_in
 pub tape-frames-asked-in : (line : List ℕ) → Exact (λ r. requestOf r ≡ askedIn (bytesOf line))
@@ -589,7 +562,7 @@ tape-frames-asked-in = tape-frames.asked-in-exact
 
 -- tape_tests::tape_judged
 pub tape-tests-tape-judged : (line : List ℕ) (roles : ℕ) (s : Heard) (place : ℕ) → Exact (λ r. r ≡ judgeTape place roles s line)
-tape-tests-tape-judged line roles s place = tape-tests.tape-judged-exact line roles place s
+tape-tests-tape-judged line roles s place r r′ = exact
 
 -- ---- tape
 
@@ -601,14 +574,14 @@ tape-read-tape = tape.read-tape-exact
 
 -- split::split
 pub split-split : (input : List ℕ) → Exact (λ r. (r ≡ parted 0 0 (lines input)) × ((r .bytes ≤ length input) × (r .lines ≤ length input)))
-split-split input r r′ h h′ = split.split-exact input r r′ (h .0) (h′ .0)
+split-split input r r′ h h′ = exact (h .0) (h′ .0)
 
 -- ---- batches
 
 -- batches::take_batch
 pub batches-take-batch : (tape : List ℕ) (at t : ℕ)
     → Exact (λ r. (r ≡ takes t (lines (drop at tape)) (noneYet at)) × (lines (drop (r .next) tape) ≡ rest t (lines (drop at tape)) 0))
-batches-take-batch tape at t r r′ h h′ = batches.take-batch-exact tape at t r r′ (h .0) (h′ .0)
+batches-take-batch tape at t r r′ h h′ = exact (h .0) (h′ .0)
 
 -- ---- openings
 

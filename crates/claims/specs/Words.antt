@@ -26,7 +26,7 @@ use Rattle.examples.specs.Day.{text, sheetLines, tapeLines, askedAt, filled}
 use Rattle.examples.specs.Table.{input, periodics, triggers}
 
 -- A SHEET IN GOOD ORDER, as bytes: LENGTH is not given, and every line passes its tests up to and with the end; s is what was read of them.
-pub record InOrder (sheet p t : List ℕ) (s : State) : Type 0 where
+pub record ReadsInOrder (sheet p t : List ℕ) (s : State) : Type 0 where
   pub lengths : lengthsFit (length sheet) (length p) (length t) ≡ true
   pub to-its-end : reads (goes start) (lines sheet) ≡ goes s
 

@@ -15,5 +15,5 @@ pub day-minute-exact : (R : Rules) (tape : List ℕ) (at : ℕ) (before : Lent) 
 day-minute-exact R tape at before r r′ a a′ x y =
     let s = step-exact R (flat (batchAt tape at before .asked) (batchAt tape at before .count)) before (r .verdict) (r′ .verdict) a a′ (x .step) (y .step) in
     let n : r .next ≡ r′ .next = exact (x .next) (y .next) in
-    let e : r .roles ≡ r′ .roles = x .roles .0 ∙ (ap (λ (l : Lent). l .roles) (s .1) ∙ sym (y .roles .0)) in
-    ((λ i. record { verdict = s .0 i; next = n i; roles = e i }), s .1)
+    let e : r .enabled ≡ r′ .enabled = x .roles .0 ∙ (ap (λ (l : Lent). l .roles) (s .1) ∙ sym (y .roles .0)) in
+    ((λ i. record { verdict = s .0 i; next = n i; enabled = e i }), s .1)

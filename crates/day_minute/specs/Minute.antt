@@ -23,5 +23,5 @@ restAt tape at before = rest (before .instant) (lines (drop at tape)) 0
 pub record MinuteOutcome (R : Rules) (tape : List ℕ) (at : ℕ) (before : Lent) (r : Turn) (after : Lent) : Type 0 where
   pub step : Outcome R (flat (batchAt tape at before .asked) (batchAt tape at before .count)) before (r .verdict) after
   pub next : r .next ≡ batchAt tape at before .next
-  pub roles : (r .roles ≡ after .roles) × (r .roles < 2 ^ 64)
+  pub roles : (r .enabled ≡ after .roles) × (r .enabled < 2 ^ 64)
   pub goes-on : lines (drop (r .next) tape) ≡ restAt tape at before

@@ -7,7 +7,7 @@ use answers::Verdict;
 pub struct Turn {
     pub verdict: Verdict,
     pub next: usize,
-    pub roles: u64,
+    pub enabled: u64,
 }
 
 // A minute of a day: the requests of the next instant that stand in the tape at `at` and on, and a step with them. It prints nothing.
@@ -45,6 +45,6 @@ pub fn day_minute(
     Turn {
         verdict: verdict,
         next: b.next,
-        roles: *enabled,
+        enabled: *enabled,
     }
 }

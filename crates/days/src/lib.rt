@@ -43,7 +43,7 @@ fn run(plan: Plan, periodics: &[u8], triggers: &[u8], tape: &[u8], out: &mut [u8
             &mut events,
         );
         let n = after::count(&events);
-        let frame = printed_frames::minute_frame(t, turn.roles, n);
+        let frame = printed_frames::minute_frame(t, turn.enabled, n);
         prints::put_line(out, 31 * (t as usize), &frame);
         at = turn.next;
         t += 1;

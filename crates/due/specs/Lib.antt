@@ -1,4 +1,3 @@
 -- The due periodic events.
 pub mod Due
 pub mod Laws
-pub mod Exact

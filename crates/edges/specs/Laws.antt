@@ -13,9 +13,9 @@ use Rattle.theory.specs.Numbers.{EVENTS}
 use Rattle.theory.specs.Below.{anyBelow}
 use Rattle.theory.specs.Sheet.{Trigger, Sheet}
 use Rattle.theory.specs.Graph.{Edges, counts, node, drawn}
+use Rattle.theory.specs.Laws.Tests.{same-or}
 use Rattle.tables.specs.Layout.{triggerAt, sheetOf, triggersOf}
 use Rattle.rows.specs.Rows.{Row, reaches, RowIs, RowsAre, linked}
-use Rattle.rows.specs.Laws.Changes.{same-or}
 use Rattle.rows.specs.Laws.Row.{row-same, empty-row}
 use Rattle.rows.specs.Laws.Rows.{rows-same}
 use Rattle.edges.specs.Drawing.{leaves, draws, drawsBelow, addedFrom}

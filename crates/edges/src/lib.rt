@@ -1,22 +1,15 @@
 ghost use mathlib.Core.Path.{_≡_};
 ghost use Prim.Native.Nat.{ℕ};
-ghost use Rattle.theory.specs.Graph.{counts, node};
+ghost use Rattle.theory.specs.Graph.{node};
 ghost use Rattle.tables.specs.Layout.{triggersOf};
 ghost use Rattle.rows.specs.Rows.{RowIs, Become};
 ghost use Rattle.edges.specs.Drawing.{tailOf, draws, drawsBelow, addedFrom};
 use rows::Row;
 use rows::Rows;
-use tables::DELAY;
 use tables::EVENT_COUNT;
 use tables::HEAD;
 use tables::trigger_byte;
-
-// Trigger i counts: its delay is 0.
-fn counts_at(triggers: &[u8], i: u16) -> bool
-    ensures { λ r. ⌜ ((n : ℕ) → r ≡ counts (triggersOf n (now (triggers .entry))) i) ⌝ }
-{
-    trigger_byte(triggers, i, DELAY) == 0
-}
+use triggers::counts_at;
 
 // The nodes: the head events of the first n triggers that count. The table may have any length and hold anything: past its end stands 0, and what is no event joins no row.
 pub fn nodes(triggers: &[u8], n: u16) -> Row

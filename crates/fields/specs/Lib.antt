@@ -1,3 +1,2 @@
 -- The fields of a frame: FIELD.
 pub mod Fields
-pub mod Exact

@@ -2,21 +2,41 @@ ghost use mathlib.Core.Path.{_≡_};
 ghost use Prim.Native.Nat.{_%_};
 ghost use lib.ListN.{getD, length};
 ghost use Rattle.frames.specs.Frame.{value, bytesOf, checked, sum};
+use basic::wide;
 
-// What a digit stands for; 0 for what is none.
+// What a digit stands for; 0 for what is none. (The compiler makes a table of it.)
 fn digit(c: u8) -> u8
     ensures { λ r. ⌜ r ≡ value c ⌝ }
 {
-    if c < 48 {
-        return 0;
+    match c {
+        48 => 0,
+        49 => 1,
+        50 => 2,
+        51 => 3,
+        52 => 4,
+        53 => 5,
+        54 => 6,
+        55 => 7,
+        56 => 8,
+        57 => 9,
+        65 => 10,
+        66 => 11,
+        67 => 12,
+        68 => 13,
+        69 => 14,
+        70 => 15,
+        _ => 0,
     }
-    if c <= 57 {
+}
+
+// The same by tests, for a loop over a whole line: the compiler makes them of many characters at once.
+fn digit_by_tests(c: u8) -> u8
+    ensures { λ r. ⌜ r ≡ value c ⌝ }
+{
+    if (48 <= c) & (c <= 57) {
         return c - 48;
     }
-    if c < 65 {
-        return 0;
-    }
-    if c <= 70 {
+    if (65 <= c) & (c <= 70) {
         return c - 55;
     }
     0
@@ -41,13 +61,6 @@ pub fn count(line: &[u8]) -> usize
     line.len() / 2
 }
 
-// A byte as a number of 32 bits.
-fn wide(x: u8) -> u32
-    ensures { λ r. ⌜ r ≡ x ⌝ }
-{
-    x as u32
-}
-
 // The sum of the frame's bytes, less the multiples of 256.
 fn total(line: &[u8]) -> u32
     ensures { λ r. ⌜ r ≡ sum (bytesOf (now (line .entry))) % 256 ⌝ }
@@ -56,7 +69,9 @@ fn total(line: &[u8]) -> u32
     let mut t: u32 = 0;
     let mut i: usize = 0;
     while i < n {
-        t = (t + wide(byte_at(line, i))) % 256;
+        let a = digit_by_tests(line[2 * i]);
+        let b = digit_by_tests(line[2 * i + 1]);
+        t = (t + 16 * wide(a) + wide(b)) % 256;
         i += 1;
     }
     t

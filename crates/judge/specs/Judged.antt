@@ -2,7 +2,7 @@
 -- Assumes nothing.
 use mathlib.Core.List.{List}
 use Prim.Native.Nat.{ℕ}
-use lib.ListN.{getD, replicate}
+use lib.ListN.{replicate}
 use Rattle.theory.specs.Numbers.{EVENTS}
 use Rattle.theory.specs.Sheet.{Sheet}
 use Rattle.theory.specs.Graph.{pairPlace}
@@ -25,10 +25,6 @@ levelsAfter (Refuse r) sh = replicate EVENTS 0
 -- THE WHOLE ANSWER
 unfoldable pub judged : Sheet → Judged
 judged sh = record { verdict = judgeTables sh; levels = levelsAfter (judgeRows sh) sh }
-
--- the level of event e in an answer
-abbrev pub levelIn : Judged → ℕ → ℕ
-levelIn r e = getD (r .levels) e 0
 
 -- ---- its parts
 

@@ -8,7 +8,6 @@ use Prim.Native.Nat.{ℕ, _+_, _-_, _≤_, _<_}
 use native.Mathlib.Decide.{decLt}
 use native.Mathlib.Omega.{arith}
 use lib.Dec.{leb}
-use lib.ListN.{getD}
 use borrow.Author.Tests.{leb-true, le-leb, lt-ltb, le-ltb, not-true, not-false}
 use Rattle.theory.specs.Numbers.{ROLES, PERIODIC-ROWS, TRIGGER-ROWS}
 use Rattle.theory.specs.Sheet.{Sheet, GoodOrder}
@@ -23,24 +22,20 @@ use Rattle.theory.specs.Laws.OneSolution.{good-heads}
 use Rattle.answers.specs.declared.Name.{Name}
 use Rattle.answers.specs.declared.Name.the-variants.{Field, TooMany, Loop}
 use Rattle.answers.specs.declared.Refusal.{Refusal}
-use Rattle.answers.specs.declared.Verdict.{Verdict}
 use Rattle.answers.specs.declared.Verdict.the-variants.{Pass, Refuse}
+use Rattle.tables.specs.Layout.{byteAt}
 use Rattle.loops.specs.Tested.{tested}
-use Rattle.loops.specs.Exact.{levels-say, nothing-says}
+use Rattle.loops.specs.Laws.Says.{levels-say, nothing-says}
 use Rattle.answers.specs.Answers.{refuse, andThen}
+use Rattle.answers.specs.Laws.{both-pass}
 use Rattle.row_judge.specs.Judge.{fewRows, rolesFit, rowCount, rowFits, firstUnfit, judgeRows, judgeLoop, judgeTables}
 use Rattle.row_judge.specs.Laws.{fits-periodic, fits-trigger, rows-many, rows-roles, rows-fields, fields-at, fields-pass}
 use Rattle.judge.specs.declared.Judged.{Judged}
-use Rattle.judge.specs.Judged.{judged, levelIn, loopJudged}
+use Rattle.judge.specs.Judged.{judged, loopJudged}
 use Rattle.judge.specs.Says.{FewRows, RolesFit, UnfitAt, RefusalSays, Says}
 use Rattle.judge.specs.Laws.Answer.{tables-refused, tables-loop, judged-loop}
 pub mod Found
 pub mod Answer
-
-then-passes : (v w : Verdict) → andThen v w ≡ Pass → v ≡ Pass
-unfolding andThen
-then-passes Pass w e = refl
-then-passes (Refuse r) w e = e
 
 -- ---- the tests, as what they test
 
@@ -177,11 +172,11 @@ module _ (sh : Sheet) where
   module _ (e : judgeTables sh ≡ Pass) where
     levels-tested : judged sh .levels ≡ tested sh .levels
     unfolding judgeTables loopJudged tested
-    levels-tested = ap (λ (r : Judged). r .levels) (judged-loop sh (then-passes (judgeRows sh) (judgeLoop sh) e))
+    levels-tested = ap (λ (r : Judged). r .levels) (judged-loop sh (both-pass (judgeRows sh) (judgeLoop sh) e .0))
 
     -- they meet the rule
-    pub judged-levels : Levels sh (levelIn (judged sh))
+    pub judged-levels : Levels sh (byteAt (judged sh .levels))
     judged-levels =
         let p : GoodOrder sh × NoLoop sh = judge-passes e in
         let hb : HeadsBelow sh = good-heads sh (p .0) in
-        subst (λ (l : List ℕ). Levels sh (λ k. getD l k 0)) (sym levels-tested) (levels-say sh (tested sh) refl hb (nothing-says sh (tested sh) refl hb .1 (p .1)))
+        subst (λ (l : List ℕ). Levels sh (byteAt l)) (sym levels-tested) (levels-say sh (tested sh) refl hb (nothing-says sh (tested sh) refl hb .1 (p .1)))

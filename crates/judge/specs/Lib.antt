@@ -2,4 +2,3 @@
 pub mod Judged
 pub mod Says
 pub mod Laws
-pub mod Exact

@@ -1,25 +1,16 @@
 ghost use mathlib.Core.Path.{_≡_};
 ghost use Prim.Native.Nat.{ℕ, _<_, _≤_};
 ghost use Rattle.theory.specs.Numbers.{TRIGGER-ROWS};
-ghost use Rattle.theory.specs.Graph.{counts};
 ghost use Rattle.theory.specs.Laws.Stage.{Gap};
-ghost use Rattle.tables.specs.Layout.{triggersOf};
 ghost use Rattle.keys.specs.Keys.{KEYS, keyIn, Chained};
 use basic::index;
 use basic::row_index;
 use bodies::allows;
 use masks::number;
-use tables::DELAY;
 use tables::HEAD;
 use tables::byte;
 use tables::trigger_byte;
-
-// Trigger i counts: its delay is 0.
-fn counts_at(triggers: &[u8], i: u16) -> bool
-    ensures { λ r. ⌜ ((n : ℕ) → r ≡ counts (triggersOf n (now (triggers .entry))) i) ⌝ }
-{
-    trigger_byte(triggers, i, DELAY) == 0
-}
+use triggers::counts_at;
 
 // The key of trigger i: one more than the level of its head, and 0 where it does not count or its conditions do not all hold.
 fn key_of(triggers: &[u8], levels: &[u8], roles: u64, i: u16) -> u16

@@ -1,3 +1,2 @@
 -- The kinds of frames: how many bytes each has, and where each may stand.
 pub mod Kinds
-pub mod Exact

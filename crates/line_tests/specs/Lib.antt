@@ -1,4 +1,3 @@
 -- The tests of a line, in their order.
 pub mod Judge
 pub mod Laws
-pub mod Exact

@@ -2,3 +2,4 @@
 pub mod Search
 pub mod Levels
 pub mod Tested
+pub mod Says

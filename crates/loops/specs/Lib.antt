@@ -1,4 +1,3 @@
 -- The loop test over a trigger table: what it answers.
 pub mod Tested
 pub mod Laws
-pub mod Exact

@@ -4,7 +4,6 @@ use mathlib.Core.Bool.{Bool, cond, _&&_}
 use mathlib.Core.List.{List, [], _∷_}
 use Prim.Native.Nat.{ℕ, zero, suc, _/_, _%_}
 use lib.Dec.{ltb}
-use lib.ListN.{getD}
 use Rattle.theory.specs.Numbers.{EVENTS}
 use Rattle.theory.specs.Sheet.{Sheet}
 use Rattle.theory.specs.Graph.{Edges}
@@ -29,7 +28,3 @@ tabulate (suc n) f = f zero ∷ tabulate n (λ i. f (suc i))
 -- the whole answer
 unfoldable pub tested : Sheet → Tested
 tested sh = record { found = foundAt (loopPlace sh); levels = tabulate EVENTS (levelOf sh) }
-
--- the level of event e in an answer
-abbrev pub levelIn : Tested → ℕ → ℕ
-levelIn r e = getD (r .levels) e 0

@@ -2,4 +2,3 @@
 pub mod Masks
 pub mod Joins
 pub mod Laws
-pub mod Exact

@@ -12,7 +12,7 @@ use Rattle.masks.specs.Joins.{joins}
 use Rattle.due.specs.Due.{dueAt}
 use Rattle.waiting.specs.Waiting.{copied, cleared, triggerEntry}
 use Rattle.after.specs.After.{rolesBelow}
-use Rattle.requests.specs.Requests.{givenEntry, waitEntry}
+use Rattle.asked.specs.Adds.{givenEntry, waitEntry}
 use Rattle.solver.specs.Solved.{Solved}
 
 -- the events buffer before it is solved: the row of t, then the due events of the first n periodic rows, then the requests of delay 0

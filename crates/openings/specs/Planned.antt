@@ -16,7 +16,6 @@ use Rattle.readings.specs.declared.Reading.the-variants.{Good, Bad}
 use Rattle.split.specs.Split.{sheetBytes, sheetLines, tapePart}
 use Rattle.tape_tests.specs.declared.Heard.{Heard}
 use Rattle.tape.specs.Tape.{tapeRead}
-use Rattle.openings.specs.declared.Plan.{Plan}
 use Rattle.openings.specs.declared.Opened.{Opened}
 use Rattle.openings.specs.declared.Opened.the-variants.{Opens, Refuses}
 use Rattle.openings.specs.Opening.{INPUT-BYTES, sheetRead}

@@ -1,3 +1,2 @@
 -- The tests of a step that come before its tables.
 pub mod Order
-pub mod Exact

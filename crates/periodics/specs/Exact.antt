@@ -3,7 +3,6 @@
 use mathlib.Core.Path.{_≡_}
 use mathlib.Core.List.{List}
 use Prim.Native.Nat.{ℕ}
-use Rattle.theory.specs.Sheet.{Periodic}
 use Rattle.theory.specs.Laws.Exact.{exact}
 use Rattle.tables.specs.Layout.{periodicAt}
 use Rattle.periodics.specs.declared.PeriodicRow.{PeriodicRow}

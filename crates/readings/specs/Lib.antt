@@ -1,3 +1,2 @@
 -- What the reader answers.
 pub mod Readings
-pub mod Exact

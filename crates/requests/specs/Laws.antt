@@ -3,7 +3,7 @@
 use mathlib.Core.Path.{_≡_, refl, sym, ap}
 use mathlib.Core.Logic.{⊎-elim}
 use mathlib.Core.Bool.{true, false, not, _&&_}
-use Prim.Native.Nat.{ℕ, _+_, _<_}
+use Prim.Native.Nat.{ℕ, _<_}
 use native.Mathlib.Omega.{arith}
 use lib.Dec.{ltb, eqb}
 use borrow.Author.Tests.{lt-ltb, le-ltb, ltb-false, eqb-true, eq-eqb, not-false}
@@ -16,12 +16,9 @@ use Rattle.theory.specs.Laws.First.{first-none, first-past}
 use Rattle.answers.specs.declared.Name.the-variants.{Request}
 use Rattle.answers.specs.declared.Verdict.the-variants.{Pass}
 use Rattle.answers.specs.Laws.{no-pass}
-use Rattle.tables.specs.Asked as lent
 use Rattle.tables.specs.Asked.{Asked, asks}
-use Rattle.masks.specs.Joins.{Entry}
-use Rattle.waiting.specs.Waiting.{placeOf}
 use Rattle.answers.specs.Answers.{refuse}
-use Rattle.requests.specs.Requests.{fits, outside, firstOutside, judgeRequests, givenEntry, waitEntry}
+use Rattle.requests.specs.Requests.{outside, firstOutside, judgeRequests, AllFit}
 pub mod Flat
 
 -- ---- what is asked for
@@ -39,10 +36,6 @@ asks-elim q d e p h =
     (i, r .1, eqb-true _ _ (and-left (eqb (q .request i .delay) d) _ (r .2)), and-right (eqb (q .request i .delay) d) _ (r .2))
 
 -- ---- the search
-
--- every request is within its limits
-abbrev pub AllFit : ℕ → Asked → Type 0
-AllFit roleCount q = (i : ℕ) → i < q .count → fits roleCount (q .request i) ≡ true
 
 pub fit-says : (roleCount : ℕ) (q : Asked) → AllFit roleCount q → (i : ℕ) → i < q .count → RequestWithin roleCount (q .request i .delay) (q .request i .event) (q .request i .priority)
 fit-says roleCount q h i l = request-says roleCount (q .request i .delay) (q .request i .event) (q .request i .priority) .0 (h i l)
@@ -70,11 +63,3 @@ module _ (roleCount : ℕ) (q : Asked) where
   -- and the other way round
   pub requests-fit : AllFit roleCount q → judgeRequests roleCount q ≡ Pass
   requests-fit h = sym (outside-none (sym (first-none (q .count) (outside roleCount q) (λ k l. ap not (h k l)))))
-
--- ---- the entries, made of what the code read
-
-pub given-entry : (r r′ : lent.Request) (at : ℕ) → r ≡ r′ → at ≡ r .event → _≡_ {A = Entry} (record { on = eqb (r .delay) 0; at = at; priority = r .priority }) (givenEntry r′)
-given-entry r r′ at e a = rw a (ap givenEntry e)
-
-pub wait-entry : (r r′ : lent.Request) (t at : ℕ) → r ≡ r′ → at ≡ placeOf (t + r .delay) (r .event) → _≡_ {A = Entry} (record { on = ltb 0 (r .delay); at = at; priority = r .priority }) (waitEntry t r′)
-wait-entry r r′ t at e a = rw a (ap (waitEntry t) e)

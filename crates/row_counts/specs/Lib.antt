@@ -1,4 +1,3 @@
 -- The rows counted: TOO MANY and COUNT.
 pub mod Counts
 pub mod Laws
-pub mod Exact

@@ -1,4 +1,4 @@
--- The contracts of this crate's public functions leave one possible answer, and one possible content of the row or the rows that are lent:
+-- The contracts of `with`, `joined` and `link` leave one possible content of the row or the rows that they make:
 -- a row of the code is whole, and so is each of the rows.
 -- Assumes nothing.
 use mathlib.Core.Path.{_≡_, refl, sym, _∙_}
@@ -11,9 +11,7 @@ use lib.ListN.{length, getD}
 use lib.Seq.{ext-getD}
 use borrow.Author.Tests.{lt-ltb}
 use Rattle.theory.specs.Numbers.{EVENTS}
-use Rattle.theory.specs.Below.{anyBelow}
 use Rattle.theory.specs.Graph.{Edges}
-use Rattle.theory.specs.Laws.Exact.{exact}
 use Rattle.rows.specs.Rows.{Row, whole, reaches, edgesOf, RowIs, RowsAre, Become, linked}
 use Rattle.rows.specs.Laws.Row.{row-at}
 
@@ -51,9 +49,6 @@ become-exact F rows r r′ h e e′ = rows-one (F (edgesOf rows)) r r′ (e (edg
 
 -- ---- function by function
 
-pub reaches-exact : (row : Row) (b : ℕ) (r r′ : Bool) → r ≡ reaches row b → r′ ≡ reaches row b → r ≡ r′
-reaches-exact row b r r′ = exact
-
 pub with-exact : (row : Row) (b : ℕ) (on : Bool) (r r′ : Row) → whole row
     → ((f : ℕ → Bool) → RowIs f row → RowIs (λ x. f x || (on && eqb b x)) r) → ((f : ℕ → Bool) → RowIs f row → RowIs (λ x. f x || (on && eqb b x)) r′) → r ≡ r′
 with-exact row b on r r′ h e e′ = row-one (λ x. reaches row x || (on && eqb b x)) r r′ (e (reaches row) (row-own row h)) (e′ (reaches row) (row-own row h))
@@ -64,12 +59,6 @@ joined-exact x y r r′ h k e e′ =
     row-one (λ b. reaches x b || reaches y b) r r′
     (e (reaches x) (reaches y) (row-own x h) (row-own y k))
     (e′ (reaches x) (reaches y) (row-own x h) (row-own y k))
-
-pub some-exact : (row : Row) (r r′ : Bool) → r ≡ anyBelow EVENTS (reaches row) → r′ ≡ anyBelow EVENTS (reaches row) → r ≡ r′
-some-exact row r r′ = exact
-
-pub leads-exact : (rows : List Row) (a b : ℕ) (r r′ : Bool) → r ≡ edgesOf rows a b → r′ ≡ edgesOf rows a b → r ≡ r′
-leads-exact rows a b r r′ = exact
 
 pub link-exact : (rows : List Row) (a b : ℕ) (on : Bool) (r r′ : List Row) → wholeRows rows → Become (linked on a b) rows r → Become (linked on a b) rows r′ → r ≡ r′
 link-exact rows a b on = become-exact (linked on a b) rows

@@ -20,9 +20,9 @@ abbrev pub start : State
 start = state fresh (replicate PERIODIC-TABLE 0) (replicate TRIGGER-TABLE 0)
 
 -- a refusal leaves the lent tables p and t as they came; on success they hold the rows in sheet order and are otherwise zero
-unfoldable pub byStep : Going State → List ℕ → List ℕ → Outcome
-byStep (refused r) p t = outcome (Bad r) p t
-byStep (goes s) p t = afterLines s p t
+unfoldable pub byLines : Going State → List ℕ → List ℕ → Outcome
+byLines (refused r) p t = outcome (Bad r) p t
+byLines (goes s) p t = afterLines s p t
 
 -- LENGTH is not given: the sheet is within its limit and the lent tables have their exact lengths
 unfoldable pub lengthsFit : ℕ → ℕ → ℕ → Bool
@@ -32,5 +32,5 @@ lengthsFit sheet p t = leb sheet SHEET-BYTES && (eqb p PERIODIC-TABLE && eqb t T
 unfoldable pub reading : List ℕ → List ℕ → List ℕ → Outcome
 reading sheet p t =
     cond (lengthsFit (length sheet) (length p) (length t))
-    (byStep (reads (goes start) (lines sheet)) p t)
+    (byLines (reads (goes start) (lines sheet)) p t)
     (outcome (Bad (record { name = Length; place = 0 })) p t)

@@ -9,8 +9,8 @@ use native.Mathlib.Omega.{arith}
 use lib.Dec.{eqb}
 use lib.ListN.{length, take, drop, length-drop, length-take, drop-of-length-le}
 use Rattle.theory.specs.Laws.Tests.{test}
-use Rattle.text.specs.Lines.{LINE-END, Lines, none, endless, line, onto, lines}
-use Rattle.text.specs.Laws.Lines.{span, line-here, endless-here}
+use Rattle.text.specs.Lines.{LINE-END, Lines, none, endless, line, onto, lines, span}
+use Rattle.text.specs.Laws.Lines.{line-here, endless-here}
 use Rattle.split.specs.declared.Parts.{Parts}
 use Rattle.split.specs.Split.{beginsEnd, sheetBytes, sheetLines}
 use Rattle.split.specs.Parted.{parted}

@@ -2,4 +2,3 @@
 pub mod Split
 pub mod Parted
 pub mod Laws
-pub mod Exact

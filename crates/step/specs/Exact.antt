@@ -27,13 +27,14 @@ use Rattle.answers.specs.declared.Refusal.{Refusal}
 use Rattle.answers.specs.declared.Verdict.{Verdict}
 use Rattle.answers.specs.declared.Verdict.the-variants.{Pass, Refuse}
 use Rattle.tables.specs.Layout.{sheetOf, periodicAt}
-use Rattle.tables.specs.Buffers.{bit, rolesOf, eventsOf, waitingOf}
+use Rattle.tables.specs.Buffers.{bit, rolesOf, eventsOf, waitingOf, Narrow}
 use Rattle.tables.specs.Asked.{Asked, asks}
 use Rattle.masks.specs.Laws.Bits.{bit-high, bit-none}
-use Rattle.masks.specs.Laws.Held.{Narrow, roles-one, events-one, waiting-one, buffer-of}
+use Rattle.masks.specs.Laws.Held.{roles-one, events-one, waiting-one, buffer-of}
 use Rattle.row_judge.specs.Judge.{Rules, sheetIn}
 use Rattle.judge.specs.Laws.{judge-passes}
-use Rattle.requests.specs.Laws.{AllFit, fit-says, asks-elim}
+use Rattle.requests.specs.Requests.{AllFit}
+use Rattle.requests.specs.Laws.{fit-says, asks-elim}
 use Rattle.step.specs.Outcome.{Lent, stateIn, judgeStep, Stepped, Outcome}
 use Rattle.step.specs.Laws.Passes.{step-passes}
 

@@ -14,8 +14,7 @@ use Rattle.tables.specs.Layout.{byteAt}
 use Rattle.tables.specs.Asked.{Asked}
 use Rattle.answers.specs.Answers.{andThen}
 use Rattle.row_judge.specs.Judge.{Rules, sheetIn, judgeTables}
-use Rattle.requests.specs.Requests.{judgeRequests}
-use Rattle.requests.specs.Laws.{AllFit}
+use Rattle.requests.specs.Requests.{judgeRequests, AllFit}
 use Rattle.step.specs.Outcome.{Lent, Stepped}
 
 -- both buffers have their lengths

@@ -1,7 +1,7 @@
 -- The requests of one instant as they are lent: a list of records of event, priority and delay, in any order (document 01, 'What comes back'). Only how many they are and
 -- whether each is within its limits is asked of the list; all else goes by the set that it asks for.
 -- Assumes nothing.
-use mathlib.Core.Bool.{Bool, _&&_}
+use mathlib.Core.Bool.{_&&_}
 use mathlib.Core.List.{List}
 use Prim.Native.Nat.{ℕ, _+_, _*_}
 use lib.Dec.{eqb}

@@ -3,9 +3,9 @@
 -- Assumes nothing.
 use mathlib.Core.Bool.{Bool, _&&_}
 use mathlib.Core.List.{List}
-use Prim.Native.Nat.{ℕ, _+_, _*_, _/_, _%_, _^_}
+use Prim.Native.Nat.{ℕ, _+_, _*_, _/_, _%_, _^_, _<_}
 use lib.Dec.{eqb, ltb}
-use lib.ListN.{getD}
+use lib.ListN.{length, getD}
 use Rattle.theory.specs.Numbers.{EVENTS}
 use Rattle.theory.specs.Events.{Events, Roles}
 
@@ -24,3 +24,7 @@ eventsOf l e p = ltb e EVENTS && bit (getD l e 0) p
 -- number 128 × k + e of a waiting buffer is the set of priorities of event e in row k
 abbrev pub waitingOf : List ℕ → ℕ → Events
 waitingOf l k e p = ltb e EVENTS && bit (getD l (EVENTS * k + e) 0) p
+
+-- every number of a buffer is of w bits
+abbrev pub Narrow : ℕ → List ℕ → Type 0
+Narrow w l = (i : ℕ) → i < length l → getD l i 0 < 2 ^ w

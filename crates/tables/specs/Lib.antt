@@ -5,4 +5,3 @@ pub mod Asked
 pub mod Agreed
 pub mod Sample
 pub mod Laws
-pub mod Exact

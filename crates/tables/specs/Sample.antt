@@ -1,11 +1,10 @@
 -- The layout at work: row 1 of each table whose bytes are all different, and one number of a waiting buffer.
 -- Assumes nothing.
 use mathlib.Core.Path.{_≡_, refl}
-use mathlib.Core.Bool.{Bool, true, false}
-use mathlib.Core.List.{List, [], _∷_, _++_}
-use Prim.Native.Nat.{ℕ}
+use mathlib.Core.Bool.{true, false}
+use mathlib.Core.List.{[], _∷_, _++_}
 use lib.ListN.{replicate, set}
-use Rattle.theory.specs.Sheet.{Periodic, Trigger}
+use Rattle.theory.specs.Sheet.{Trigger}
 use Rattle.tables.specs.Layout.{periodicAt, triggerFrom, triggerAt}
 use Rattle.tables.specs.Buffers.{bit, waitingOf}
 

@@ -7,7 +7,7 @@ ghost use Rattle.tables.specs.Layout.{TRIGGER-BYTES, byteAt};
 use basic::index;
 use basic::row_index;
 
-// The lent tables' layout, in bytes (docs/TABLES.md).
+// The lent tables' layout, in bytes (docs/TABLES.md), for whoever lends them.
 pub const PERIODIC_BYTES: usize = 16;
 
 pub const TRIGGER_BYTES: usize = 13;

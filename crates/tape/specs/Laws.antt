@@ -38,10 +38,9 @@ stopped w x r e h = sym (ap took h) ∙ e
 
 -- ---- one line
 
--- what passed was framed and checked, and passed each test of its frame
+-- what passed was framed, and passed each test of its frame
 pub record Passed (roles : ℕ) (s : Heard) (l : List ℕ) : Type 0 where
   pub is-framed : framed l ≡ true
-  pub is-checked : checked (bytesOf l) ≡ true
   pub of-tape : ofTape s (bytesOf l) ≡ true
   pub room : roomFor s (bytesOf l) ≡ true
   pub in-time : inTime s (bytesOf l) ≡ true
@@ -56,7 +55,7 @@ passes place roles s l e =
     let d = cond-pass (roomFor s (bytesOf l)) _ _ _ (c .1) in
     let f = cond-pass (inTime s (bytesOf l)) _ _ _ (d .1) in
     let g = cond-pass (askFits roles (bytesOf l)) _ _ _ (f .1) in
-    record { is-framed = a .0; is-checked = b .0; of-tape = c .0; room = d .0; in-time = f .0; fit = g .0 }
+    record { is-framed = a .0; of-tape = c .0; room = d .0; in-time = f .0; fit = g .0 }
 
 -- room for a request more of the same instant
 pub room-says : (s : Heard) (f : List ℕ) → roomFor s f ≡ true → kind f ≡ ASK → instantOf f ≡ s .instant → s .row < REQUESTS

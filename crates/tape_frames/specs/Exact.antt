@@ -1,4 +1,4 @@
--- The contracts of this crate's public functions leave one possible answer: any two that they allow are equal.
+-- The contract of `asked_in` leaves one possible answer: any two that it allows are equal.
 -- Assumes nothing.
 use mathlib.Core.Path.{_≡_}
 use mathlib.Core.List.{List}
@@ -8,10 +8,7 @@ use Rattle.frames.specs.Frame.{bytesOf}
 use Rattle.requests.specs.declared.Request.{Request}
 use Rattle.requests.specs.Asked.{requestOf}
 use Rattle.requests.specs.Exact.{request-one}
-use Rattle.tape_frames.specs.Frame.{instantOf, askedIn}
-
-pub instant-of-exact : (line : List ℕ) (r r′ : ℕ) → r ≡ instantOf (bytesOf line) → r′ ≡ instantOf (bytesOf line) → r ≡ r′
-instant-of-exact line r r′ = exact
+use Rattle.tape_frames.specs.Frame.{askedIn}
 
 pub asked-in-exact : (line : List ℕ) (r r′ : Request) → requestOf r ≡ askedIn (bytesOf line) → requestOf r′ ≡ askedIn (bytesOf line) → r ≡ r′
 asked-in-exact line r r′ h h′ = request-one r r′ (exact h h′)

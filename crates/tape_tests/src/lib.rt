@@ -1,5 +1,6 @@
 ghost use mathlib.Core.Path.{_≡_};
 ghost use Rattle.frames.specs.Frame.{bytesOf};
+ghost use Rattle.tape_frames.specs.Frame.{instantOf};
 ghost use Rattle.tape_tests.specs.Tape.{tapeSize, ofTape, roomFor, inTime, askFits, inOrder, judgeFrame, judgeTape};
 use answers::Name;
 use answers::Refusal;
@@ -41,22 +42,22 @@ fn of_tape(line: &[u8], s: Heard) -> bool
     both(sized, !s.ended)
 }
 
-// TOO MANY is not given.
-fn has_room(line: &[u8], s: Heard) -> bool
+// TOO MANY is not given, for a frame of instant t.
+fn has_room(line: &[u8], t: u32, s: Heard) -> bool
+    requires { ⌜ t ≡ instantOf (bytesOf (now line)) ⌝ }
     ensures { λ r. ⌜ r ≡ roomFor s (bytesOf (now (line .entry))) ⌝ }
 {
     if byte_at(line, 0) == 64 {
-        let other = instant_of(line) != s.instant;
-        return either(other, s.row < 32);
+        return either(t != s.instant, s.row < 32);
     }
     true
 }
 
-// FIELD is not given.
-fn in_time(line: &[u8], s: Heard) -> bool
+// FIELD is not given, for a frame of instant t.
+fn in_time(line: &[u8], t: u32, s: Heard) -> bool
+    requires { ⌜ t ≡ instantOf (bytesOf (now line)) ⌝ }
     ensures { λ r. ⌜ r ≡ inTime s (bytesOf (now (line .entry))) ⌝ }
 {
-    let t = instant_of(line);
     if byte_at(line, 0) == 241 {
         return both(s.instant <= t, t <= 10080);
     }
@@ -108,11 +109,12 @@ fn in_order(place: u32, kind: bool, room: bool, field: bool, request: bool) -> V
 fn frame_judged(line: &[u8], roles: u8, s: Heard, place: u32) -> Verdict
     ensures { λ r. ⌜ r ≡ judgeFrame place roles s (bytesOf (now (line .entry))) ⌝ }
 {
+    let t = instant_of(line);
     in_order(
         place,
         of_tape(line, s),
-        has_room(line, s),
-        in_time(line, s),
+        has_room(line, t, s),
+        in_time(line, t, s),
         ask_fits(line, roles),
     )
 }

@@ -2,7 +2,7 @@
 -- Assumes nothing.
 use mathlib.Core.Bool.{cond}
 use mathlib.Core.List.{List, [], _∷_}
-use Prim.Native.Nat.{ℕ}
+use Prim.Native.Nat.{ℕ, suc}
 use lib.Dec.{eqb}
 
 -- byte 0A
@@ -26,3 +26,8 @@ onto b (line l ls) = line (b ∷ l) ls
 abbrev pub lines : List ℕ → Lines
 lines [] = none
 lines (b ∷ text) = cond (eqb b LINE-END) (line [] (lines text)) (onto b (lines text))
+
+-- how many bytes stand before the first line end
+abbrev pub span : List ℕ → ℕ
+span [] = 0
+span (b ∷ text) = cond (eqb b LINE-END) 0 (suc (span text))

@@ -1,14 +1,48 @@
 ghost use mathlib.Core.Path.{_≡_};
-ghost use Prim.Native.Nat.{_+_};
-ghost use lib.ListN.{drop};
-ghost use Rattle.text.specs.Framed.{isDigit, firstBad, framed};
-ghost use Rattle.text.specs.Laws.Lines.{span};
+ghost use mathlib.Core.Bool.{true};
+ghost use Prim.Native.Nat.{_+_, _≤_};
+ghost use lib.ListN.{length, drop};
+ghost use Rattle.text.specs.Framed.{isDigit, framed};
+ghost use Rattle.text.specs.Lines.{span};
+ghost use Rattle.text.specs.Laws.Framed.{allDigits};
+
+// None of the eight characters from i on is a 0A. (No character ends the loop: the compiler takes all eight at once.)
+fn no_end(text: &[u8], i: usize) -> bool
+    requires { ⌜ i + 8 ≤ length (now text) ⌝ }
+    ensures { λ r. ⌜ (r ≡ true → span (drop i (now (text .entry))) ≡ 8 + span (drop (i + 8) (now (text .entry)))) ⌝ }
+{
+    let mut none = true;
+    let mut k: usize = 0;
+    while k < 8 {
+        none = none & (text[i + k] != 10);
+        k += 1;
+    }
+    none
+}
+
+// Where to look for the end of the line that starts at `at`: past as many eights of characters as have no 0A.
+fn near_end(text: &[u8], at: usize) -> usize
+    ensures { λ r. ⌜ r + span (drop r (now (text .entry))) ≡ at + span (drop at (now (text .entry))) ⌝ }
+{
+    if text.len() < 8 {
+        return at;
+    }
+    let last = text.len() - 8;
+    let mut i: usize = at;
+    while i <= last {
+        if !no_end(text, i) {
+            return i;
+        }
+        i += 8;
+    }
+    i
+}
 
 // Where the line that starts at `at` ends: its 0A, or the end of the text.
 pub fn line_end(text: &[u8], at: usize) -> usize
     ensures { λ r. ⌜ r ≡ at + span (drop at (now (text .entry))) ⌝ }
 {
-    let mut i: usize = at;
+    let mut i: usize = near_end(text, at);
     while i < text.len() {
         if text[i] == 10 {
             return i;
@@ -22,41 +56,33 @@ pub fn line_end(text: &[u8], at: usize) -> usize
 fn is_digit(c: u8) -> bool
     ensures { λ r. ⌜ r ≡ isDigit c ⌝ }
 {
-    if c < 48 {
-        return false;
-    }
-    if c <= 57 {
-        return true;
-    }
-    if c < 65 {
-        return false;
-    }
-    c <= 70
+    let low = (48 <= c) & (c <= 57);
+    let high = (65 <= c) & (c <= 70);
+    low | high
 }
 
-// Where the first character stands that is no digit.
-fn first_bad(line: &[u8]) -> usize
-    ensures { λ r. ⌜ r ≡ firstBad (now (line .entry)) ⌝ }
+// Each character is a digit. (No character ends the loop: the compiler takes many at once.)
+fn all_digits(line: &[u8]) -> bool
+    ensures { λ r. ⌜ r ≡ allDigits (now (line .entry)) ⌝ }
 {
+    let mut all = true;
     let mut i: usize = 0;
     while i < line.len() {
-        if !is_digit(line[i]) {
-            return i;
-        }
+        all = all & is_digit(line[i]);
         i += 1;
     }
-    i
+    all
 }
 
 // FRAME is not given for the line's characters.
 pub fn is_framed(line: &[u8]) -> bool
     ensures { λ r. ⌜ r ≡ framed (now (line .entry)) ⌝ }
 {
-    let bad = first_bad(line);
+    let all = all_digits(line);
     if line.len() == 0 {
         return false;
     }
-    if bad == line.len() {
+    if all {
         return line.len() % 2 == 0;
     }
     false

@@ -1,7 +1,7 @@
 -- The box on the model's level: its state, one step, and a run (document 01, 'Numbers' and 'One instant'). Refusals, the last instant among them, and buffers come with the crates above.
 -- Assumes nothing.
 use mathlib.Core.Path.{_≡_}
-use mathlib.Core.Bool.{Bool, true, false, not, _&&_, _||_}
+use mathlib.Core.Bool.{true, false, not, _&&_, _||_}
 use Prim.Native.Nat.{ℕ, suc, _+_, _%_, _≤_, _<_}
 use lib.Dec.{eqb}
 use Rattle.theory.specs.Numbers.{WAITING-ROWS}

@@ -1,6 +1,6 @@
 -- Events, conditions, conflict, and what blocks what: document 01, 'Numbers' and the first rule of 'One instant' (004, definition 3.6).
 -- Assumes nothing.
-use mathlib.Core.Bool.{Bool, true, false, not, cond, _&&_}
+use mathlib.Core.Bool.{Bool, not, cond, _&&_}
 use Prim.Native.Nat.{ℕ, _+_, _-_, _*_, _/_, _%_}
 use lib.Dec.{leb, ltb, eqb}
 use Rattle.theory.specs.Numbers.{PRIORITIES}

@@ -7,7 +7,7 @@ use lib.Dec.{eqb}
 use Rattle.theory.specs.Numbers.{EVENTS}
 use Rattle.theory.specs.Below.{anyBelow}
 use Rattle.theory.specs.Events.{conf}
-use Rattle.theory.specs.Sheet.{Trigger, Sheet}
+use Rattle.theory.specs.Sheet.{Sheet}
 use Rattle.theory.specs.Instant.{immediate}
 
 -- The edges of a graph: `E a b ≡ true` says that there is one from a to b.

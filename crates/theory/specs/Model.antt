@@ -1,7 +1,7 @@
 -- The paper's execution model over all instants t ≥ 0: document 004, definitions 3.5 and 3.7 to 3.9. No buffer and no box is in it.
 -- Assumes nothing.
 use mathlib.Core.Path.{_≡_}
-use mathlib.Core.Bool.{Bool, true, false}
+use mathlib.Core.Bool.{true, false}
 use Prim.Native.Nat.{ℕ, suc, _-_, _≤_, _<_}
 use Rattle.theory.specs.Events.{Events, Roles}
 use Rattle.theory.specs.Sheet.{Sheet, due}

@@ -1,7 +1,7 @@
 ghost use mathlib.Core.Path.{_≡_};
 ghost use Rattle.theory.specs.Agreed.{limits};
 
-// Document 01's numbers and limits, each by the name that the definitions have for it.
+// Document 01's numbers and limits, each by the name that the definitions have for it: for whoever calls the box. (The code tests the numbers that its contracts name.)
 pub const ROLES: usize = 64;
 
 pub const EVENTS: usize = 128;

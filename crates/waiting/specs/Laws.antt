@@ -1,15 +1,15 @@
 -- What the rows hold once they are copied or cleared, and what joins them.
 -- Assumes nothing.
-use mathlib.Core.Path.{_≡_, refl, ap, _∙_}
+use mathlib.Core.Path.{_≡_, refl, sym, ap, _∙_}
 use mathlib.Core.Logic.{⊎-elim, by-cases}
-use mathlib.Core.Bool.{Bool, true, false, not, _&&_}
+use mathlib.Core.Bool.{Bool, true, false, not, _&&_, and-false}
 use mathlib.Core.List.{List}
 use Prim.Native.Nat.{ℕ, _+_, _*_, _<_}
 use native.Mathlib.Decide.{decLt}
 use native.Mathlib.Omega.{arith}
 use lib.Dec.{ltb, eqb}
 use lib.ListN.{length, getD}
-use borrow.Author.Tests.{lt-ltb, le-ltb}
+use borrow.Author.Tests.{eqb-true, eqb-false, lt-ltb, le-ltb}
 use Rattle.theory.specs.Numbers.{EVENTS, WAITING-NUMBERS}
 use Rattle.theory.specs.Events.{Events, Roles}
 use Rattle.theory.specs.Sheet.{Trigger}
@@ -39,17 +39,13 @@ cleared-is w t h k e p =
     (λ (l : e < EVENTS).
     ⊎-elim
     (λ (s : eqb k (row t) ≡ true).
-    let z : k ≡ row t = borrow.Author.Tests.eqb-true k (row t) s in
+    let z : k ≡ row t = eqb-true k (row t) s in
     rw (s, lt-ltb e EVENTS l, z) (ap (λ (m : ℕ). bit m p) (writes-in w (EVENTS * row t) EVENTS (λ i. 0) e l (omega arith)) ∙ bit-none p))
     (λ (s : eqb k (row t) ≡ false).
-    let z : ¬ (k ≡ row t) = borrow.Author.Tests.eqb-false k (row t) s in
+    let z : ¬ (k ≡ row t) = eqb-false k (row t) s in
     rw (s, lt-ltb e EVENTS l) (ap (λ (m : ℕ). bit m p) (writes-out w (EVENTS * row t) EVENTS (λ i. 0) (EVENTS * k + e) (λ j m q. z (omega arith)))))
     (test (eqb k (row t))))
-    (λ (l : ¬ (e < EVENTS)). rw (le-ltb e EVENTS (omega arith)) (none (not (eqb k (row t)))))
-  where
-    none : (b : Bool) → false ≡ (b && false)
-    none true = refl
-    none false = refl
+    (λ (l : ¬ (e < EVENTS)). rw (le-ltb e EVENTS (omega arith)) (sym (and-false (not (eqb k (row t))))))
 
 -- a trigger's entry, made of what the code read
 pub trigger-entry : (ST : Roles) (S : Events) (t : ℕ) (g : Trigger) (on : Bool) (at d e p : ℕ)

@@ -1,4 +1,3 @@
 -- The waiting buffer: its rows, and what comes to wait.
 pub mod Waiting
 pub mod Laws
-pub mod Exact

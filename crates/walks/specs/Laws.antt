@@ -9,8 +9,8 @@ use Rattle.answers.specs.declared.Name.the-variants.{Frame}
 use Rattle.answers.specs.declared.Refusal.{Refusal}
 use Rattle.answers.specs.declared.Verdict.{Verdict}
 use Rattle.answers.specs.declared.Verdict.the-variants.{Pass, Refuse}
-use Rattle.text.specs.Lines.{Lines, none, endless, line, lines}
-use Rattle.text.specs.Laws.Lines.{span, line-here, endless-here}
+use Rattle.text.specs.Lines.{Lines, none, endless, line, lines, span}
+use Rattle.text.specs.Laws.Lines.{line-here, endless-here}
 use Rattle.walks.specs.Walks.{Going, goes, refused, byVerdict, Reader, walks}
 
 -- a refusal is not 'goes on'

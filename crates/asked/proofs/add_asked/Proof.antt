@@ -6,8 +6,8 @@ use lib.ListN.{length}
 use Rattle.tables.specs.Asked.{requestAt}
 use Rattle.masks.specs.Joins.{joins}
 use Rattle.masks.specs.Laws.Joins.{joins-none, joins-next, joins-end}
-use Rattle.requests.specs.Requests.{givenEntry}
-use Rattle.requests.specs.Laws.{given-entry}
+use Rattle.asked.specs.Adds.{givenEntry}
+use Rattle.asked.specs.Laws.{given-entry}
 use borrow.Author.Needs.{needs}
 use Rattle.asked.proofs.add_asked.Statement.{statement}
 use Rattle.asked.proofs.add_asked.Tie as tie

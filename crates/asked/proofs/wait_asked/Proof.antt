@@ -6,8 +6,8 @@ use lib.ListN.{length}
 use Rattle.tables.specs.Asked.{requestAt}
 use Rattle.masks.specs.Joins.{joins}
 use Rattle.masks.specs.Laws.Joins.{joins-none, joins-next, joins-end}
-use Rattle.requests.specs.Requests.{waitEntry}
-use Rattle.requests.specs.Laws.{wait-entry}
+use Rattle.asked.specs.Adds.{waitEntry}
+use Rattle.asked.specs.Laws.{wait-entry}
 use borrow.Author.Needs.{needs}
 use Rattle.asked.proofs.wait_asked.Statement.{statement}
 use Rattle.asked.proofs.wait_asked.Tie as tie

@@ -24,7 +24,7 @@ use Rattle.lines.specs.Lines.{atEnd, reads}
 use Rattle.readings.specs.declared.Reading.the-variants.{Bad}
 use Rattle.hand_out.specs.Out.{outcome, sheetRead}
 use Rattle.sheet.specs.Sheet.{start, lengthsFit, reading}
-use Rattle.claims.specs.Words.{InOrder, noPeriodics, noTriggers, looped}
+use Rattle.claims.specs.Words.{ReadsInOrder, noPeriodics, noTriggers, looped}
 use Rattle.claims.specs.Laws.Reader.{reader-loops}
 
 -- it goes on to its end
@@ -44,7 +44,7 @@ to-end (refused r) h = absurd (false≢true h)
 abbrev found : State
 found = end (reads (goes start) (lines looped))
 
-in-order : InOrder looped noPeriodics noTriggers found
+in-order : ReadsInOrder looped noPeriodics noTriggers found
 unfolding anyBelow allBelow triggerFits triggerFrom isDigit value framed checked sizeOf mayStand placed eventPlace conditionPlace lastPlace triggerRow headerFits frameFits roomFor countsAgree
     inOrder judgeFrame judgeLine seenAfter tableAfter after byVerdict lineStep atEnd walks lengthsFit
 in-order = record { lengths = refl; to-its-end = to-end (reads (goes start) (lines looped)) refl }
@@ -63,5 +63,5 @@ has-loop =
       is-first = λ a b x y c. omega arith;
     }
 
-pub refuses-looped : reading looped noPeriodics noTriggers ≡ outcome (Bad (record { name = Loop; place = 0 })) noPeriodics noTriggers
-refuses-looped = reader-loops looped noPeriodics noTriggers 0 .1 (found, in-order, has-loop)
+pub not-all-passed : reading looped noPeriodics noTriggers ≡ outcome (Bad (record { name = Loop; place = 0 })) noPeriodics noTriggers
+not-all-passed = reader-loops looped noPeriodics noTriggers 0 .1 (found, in-order, has-loop)

@@ -14,17 +14,17 @@ use Rattle.answers.specs.declared.Name.the-variants.{Length, Frame, Check, Kind
 use Rattle.answers.specs.Answers.{numberOf}
 
 -- the number of a refusal is 1 to 10
-pub some-number : (name : Name) → (1 ≤ numberOf name) × (numberOf name ≤ 10)
-some-number Length = (omega arith, omega arith)
-some-number Frame = (omega arith, omega arith)
-some-number Check = (omega arith, omega arith)
-some-number Kind = (omega arith, omega arith)
-some-number Field = (omega arith, omega arith)
-some-number TooMany = (omega arith, omega arith)
-some-number Count = (omega arith, omega arith)
-some-number Loop = (omega arith, omega arith)
-some-number Request = (omega arith, omega arith)
-some-number Last = (omega arith, omega arith)
+pub no-other : (name : Name) → (1 ≤ numberOf name) × (numberOf name ≤ 10)
+no-other Length = (omega arith, omega arith)
+no-other Frame = (omega arith, omega arith)
+no-other Check = (omega arith, omega arith)
+no-other Kind = (omega arith, omega arith)
+no-other Field = (omega arith, omega arith)
+no-other TooMany = (omega arith, omega arith)
+no-other Count = (omega arith, omega arith)
+no-other Loop = (omega arith, omega arith)
+no-other Request = (omega arith, omega arith)
+no-other Last = (omega arith, omega arith)
 
 -- the refusals in the order of their numbers
 abbrev names : List Name

@@ -41,11 +41,11 @@ use Rattle.readings.specs.declared.Reading.{Reading}
 use Rattle.readings.specs.declared.Reading.the-variants.{Good, Bad}
 use Rattle.readings.specs.Readings.{verdictOf}
 use Rattle.hand_out.specs.Out.{Outcome, outcome, sheetRead, handed, byLoop, afterLines}
-use Rattle.sheet.specs.Sheet.{start, byStep, lengthsFit, reading}
+use Rattle.sheet.specs.Sheet.{start, byLines, lengthsFit, reading}
 use Rattle.accepted.specs.Accepted.{start-so-far}
 use Rattle.accepted.specs.Laws.Lines.{read-so-far}
-use Rattle.claims.specs.Words.{InOrder}
-use Rattle.claims.specs.Laws.Numbers.{some-number}
+use Rattle.claims.specs.Words.{ReadsInOrder}
+use Rattle.claims.specs.Laws.Numbers.{no-other}
 
 -- ---- no test of a line gives LOOP
 
@@ -105,22 +105,22 @@ abbrev numberIn : Outcome → ℕ
 numberIn o = answered (verdictOf (o .answer)) .number
 
 -- what passed every line is in good order
-pub order-good : (sheet p t : List ℕ) (s : State) → InOrder sheet p t s → GoodOrder (sheetRead s)
-order-good sheet p t s o = read-so-far s start (lines sheet) start-so-far (o .to-its-end) .1
+pub reader-order : (sheet p t : List ℕ) (s : State) → ReadsInOrder sheet p t s → GoodOrder (sheetRead s)
+reader-order sheet p t s o = read-so-far s start (lines sheet) start-so-far (o .to-its-end) .1
 
 module _ (sheet p t : List ℕ) where
   -- after the last line LOOP alone is tested
-  after-order : (s : State) → InOrder sheet p t s → reading sheet p t ≡ afterLines s p t
-  unfolding reading byStep
+  after-order : (s : State) → ReadsInOrder sheet p t s → reading sheet p t ≡ afterLines s p t
+  unfolding reading byLines
   after-order s o = rw (o .lengths, o .to-its-end) refl
 
   by-reads : lengthsFit (length sheet) (length p) (length t) ≡ true → (x : Going State) → reads (goes start) (lines sheet) ≡ x → NotLoop (verdictIn x)
-      → ((s : State) × InOrder sheet p t s) ⊎ ((r : Refusal) × (reading sheet p t ≡ outcome (Bad r) p t) × NotLoop (Refuse r))
-  unfolding reading byStep
+      → ((s : State) × ReadsInOrder sheet p t s) ⊎ ((r : Refusal) × (reading sheet p t ≡ outcome (Bad r) p t) × NotLoop (Refuse r))
+  unfolding reading byLines
   by-reads l (goes s) e h = inl (s, record { lengths = l; to-its-end = e })
   by-reads l (refused r) e h = inr (r, rw (l, e) refl, h)
 
-  order-cases : ((s : State) × InOrder sheet p t s) ⊎ ((r : Refusal) × (reading sheet p t ≡ outcome (Bad r) p t) × NotLoop (Refuse r))
+  order-cases : ((s : State) × ReadsInOrder sheet p t s) ⊎ ((r : Refusal) × (reading sheet p t ≡ outcome (Bad r) p t) × NotLoop (Refuse r))
   unfolding reading
   order-cases =
       ⊎-elim
@@ -135,7 +135,7 @@ module _ (sheet p t : List ℕ) where
   abbrev loopAt : ℕ → Reading
   loopAt k = Bad (record { name = Loop; place = k })
 
-  module _ (s : State) (o : InOrder sheet p t s) where
+  module _ (s : State) (o : ReadsInOrder sheet p t s) where
     refuses-loop : (k : ℕ) → LoopAt (sheetRead s) k → reading sheet p t ≡ outcome (loopAt k) p t
     unfolding byLoop
     refuses-loop k l =
@@ -144,7 +144,7 @@ module _ (sheet p t : List ℕ) where
         (λ (y : (loopPlace (sheetRead s) < PAIRS) × LoopAt (sheetRead s) (loopPlace (sheetRead s))).
         let e : loopPlace (sheetRead s) ≡ k = loop-one (sheetRead s) (loopPlace (sheetRead s)) k (y .1) l in
         after-order s o ∙ rw (lt-ltb (loopPlace (sheetRead s)) PAIRS (y .0)) (ap (λ (x : ℕ). outcome (loopAt x) p t) e))
-        (loop-or (sheetRead s) (good-heads (sheetRead s) (order-good sheet p t s o)))
+        (loop-or (sheetRead s) (good-heads (sheetRead s) (reader-order sheet p t s o)))
 
     accepts-none : NoLoop (sheetRead s) → reading sheet p t ≡ outcome (Good (handed (s .seen))) (s .periodic) (s .triggers)
     unfolding byLoop
@@ -152,21 +152,21 @@ module _ (sheet p t : List ℕ) where
         ⊎-elim
         (λ (x : (loopPlace (sheetRead s) ≡ PAIRS) × NoLoop (sheetRead s)). after-order s o ∙ rw (le-ltb (loopPlace (sheetRead s)) PAIRS (omega (arith, x .0))) refl)
         (λ (y : (loopPlace (sheetRead s) < PAIRS) × LoopAt (sheetRead s) (loopPlace (sheetRead s))). absurd (loop-not (sheetRead s) _ (y .1) nl))
-        (loop-or (sheetRead s) (good-heads (sheetRead s) (order-good sheet p t s o)))
+        (loop-or (sheetRead s) (good-heads (sheetRead s) (reader-order sheet p t s o)))
 
     loop-or-none : ((k : ℕ) × LoopAt (sheetRead s) k) ⊎ NoLoop (sheetRead s)
     loop-or-none =
         ⊎-elim
         (λ (x : (loopPlace (sheetRead s) ≡ PAIRS) × NoLoop (sheetRead s)). inr (x .1))
         (λ (y : (loopPlace (sheetRead s) < PAIRS) × LoopAt (sheetRead s) (loopPlace (sheetRead s))). inl (loopPlace (sheetRead s), y .1))
-        (loop-or (sheetRead s) (good-heads (sheetRead s) (order-good sheet p t s o)))
+        (loop-or (sheetRead s) (good-heads (sheetRead s) (reader-order sheet p t s o)))
 
   -- THE THEOREM: LOOP at k exactly where the sheet reads in good order and has its loop at k
-  pub reader-loops : (k : ℕ) → (reading sheet p t ≡ outcome (loopAt k) p t) ↔ ((s : State) × InOrder sheet p t s × LoopAt (sheetRead s) k)
+  pub reader-loops : (k : ℕ) → (reading sheet p t ≡ outcome (loopAt k) p t) ↔ ((s : State) × ReadsInOrder sheet p t s × LoopAt (sheetRead s) k)
   reader-loops k = (
     (λ h.
         ⊎-elim
-        (λ (x : (s : State) × InOrder sheet p t s).
+        (λ (x : (s : State) × ReadsInOrder sheet p t s).
         ⊎-elim
         (λ (l : (j : ℕ) × LoopAt (sheetRead (x .0)) j).
         let e : outcome (loopAt (l .0)) p t ≡ outcome (loopAt k) p t = sym (refuses-loop (x .0) (x .1) (l .0) (l .1)) ∙ h in
@@ -183,11 +183,11 @@ module _ (sheet p t : List ℕ) where
 
   -- and OK exactly where it reads in good order and has none: then the tables hold what was read
   pub reader-accepts : (r : Read) (p′ t′ : List ℕ) → (reading sheet p t ≡ outcome (Good r) p′ t′)
-      ↔ ((s : State) × InOrder sheet p t s × NoLoop (sheetRead s) × (outcome (Good (handed (s .seen))) (s .periodic) (s .triggers) ≡ outcome (Good r) p′ t′))
+      ↔ ((s : State) × ReadsInOrder sheet p t s × NoLoop (sheetRead s) × (outcome (Good (handed (s .seen))) (s .periodic) (s .triggers) ≡ outcome (Good r) p′ t′))
   reader-accepts r p′ t′ = (
     (λ h.
         ⊎-elim
-        (λ (x : (s : State) × InOrder sheet p t s).
+        (λ (x : (s : State) × ReadsInOrder sheet p t s).
         ⊎-elim
         (λ (l : (j : ℕ) × LoopAt (sheetRead (x .0)) j).
         let e : 8 ≡ 0 = ap numberIn (sym (refuses-loop (x .0) (x .1) (l .0) (l .1)) ∙ h) in
@@ -196,7 +196,7 @@ module _ (sheet p t : List ℕ) where
         (loop-or-none (x .0) (x .1)))
         (λ (y : (r : Refusal) × (reading sheet p t ≡ outcome (Bad r) p t) × NotLoop (Refuse r)).
         let e : numberOf (y .0 .name) ≡ 0 = ap numberIn (sym (y .1) ∙ h) in
-        absurd (omega (arith, some-number (y .0 .name) .0, e)))
+        absurd (omega (arith, no-other (y .0 .name) .0, e)))
         order-cases),
     (λ x. accepts-none (x .0) (x .1) (x .2) ∙ x .3),
   )
@@ -207,12 +207,12 @@ module _ (sheet p t : List ℕ) where
       let kept : (x : Reading) → reading sheet p t ≡ outcome x p t → reading sheet p t ≡ outcome (Bad r) p t
       = λ x e. e ∙ ap (λ (a : Reading). outcome a p t) (sym (ap (λ (o : Outcome). o .answer) e) ∙ h) in
       ⊎-elim
-      (λ (x : (s : State) × InOrder sheet p t s).
+      (λ (x : (s : State) × ReadsInOrder sheet p t s).
       ⊎-elim
       (λ (l : (j : ℕ) × LoopAt (sheetRead (x .0)) j). kept (loopAt (l .0)) (refuses-loop (x .0) (x .1) (l .0) (l .1)))
       (λ (n : NoLoop (sheetRead (x .0))).
       let e : Good (handed (x .0 .seen)) ≡ Bad r = sym (ap (λ (o : Outcome). o .answer) (accepts-none (x .0) (x .1) n)) ∙ h in
-      absurd (omega (arith, some-number (r .name) .0, ap (λ (a : Reading). answered (verdictOf a) .number) e)))
+      absurd (omega (arith, no-other (r .name) .0, ap (λ (a : Reading). answered (verdictOf a) .number) e)))
       (loop-or-none (x .0) (x .1)))
       (λ (y : (r : Refusal) × (reading sheet p t ≡ outcome (Bad r) p t) × NotLoop (Refuse r)). kept (Bad (y .0)) (y .1))
       order-cases

@@ -14,13 +14,12 @@ use Rattle.theory.specs.Box.{State, SameState}
 use Rattle.theory.specs.Laws.Below.{all-elim}
 use Rattle.answers.specs.declared.Verdict.{Verdict}
 use Rattle.answers.specs.declared.Verdict.the-variants.{Pass}
-use Rattle.tables.specs.Buffers.{rolesOf, eventsOf, waitingOf}
+use Rattle.tables.specs.Buffers.{rolesOf, eventsOf, waitingOf, Narrow}
 use Rattle.tables.specs.Asked.{requestAt}
 use Rattle.masks.specs.Laws.Bits.{bit-none}
-use Rattle.masks.specs.Laws.Held.{Narrow, roles-one, waiting-none, waiting-one}
+use Rattle.masks.specs.Laws.Held.{roles-one, waiting-none, waiting-one}
 use Rattle.frames.specs.Frame.{value}
-use Rattle.requests.specs.Requests.{fits}
-use Rattle.requests.specs.Laws.{AllFit}
+use Rattle.requests.specs.Requests.{fits, AllFit}
 use Rattle.accepted.specs.Accepted.{reading-good, reading-sizes}
 use Rattle.step.specs.Outcome.{Lent, lent, stateIn, judgeStep, Outcome}
 use Rattle.runs.specs.Runs.{FreshLent, HandedOn, Steps}
@@ -29,7 +28,7 @@ use Rattle.examples.specs.Day.{Worked}
 use Rattle.examples.specs.Table.{input, all-say}
 use Rattle.claims.specs.Words.{countIn, noPeriodics, noTriggers, workedSheet, worked, asked}
 use Rattle.claims.specs.Laws.Step.{step-passes-says}
-use Rattle.claims.specs.Laws.There.{step-there}
+use Rattle.claims.specs.Laws.There.{step-total}
 
 -- ---- the worked input
 
@@ -81,26 +80,26 @@ first-two before after steps =
     record { no-events = x .0; three-events = y .0; roles-before = s .roles; roles-after = y .1 .roles }
 
 -- they differ in their events
-pub sets-differ : (before after : ℕ → Lent) → Steps 2 worked asked before after → after 0 .events ≡ after 1 .events → ⊥
+pub not-one-set : (before after : ℕ → Lent) → Steps 2 worked asked before after → after 0 .events ≡ after 1 .events → ⊥
 unfolding first anyBelow
-sets-differ before after steps e =
+not-one-set before after steps e =
     let x : FirstTwo before after = first-two before after steps in
     let f : among [] ≡ among three = sym (x .no-events) ∙ (ap eventsOf e ∙ x .three-events) in
     false≢true (ap (λ (S : Events). S (enable 0) 4) f)
 
 -- the second changes the roles
-pub roles-differ : (before after : ℕ → Lent) → Steps 2 worked asked before after → before 1 .roles ≡ after 1 .roles → ⊥
+pub not-same-roles : (before after : ℕ → Lent) → Steps 2 worked asked before after → before 1 .roles ≡ after 1 .roles → ⊥
 unfolding rolesIn anyBelow
-roles-differ before after steps e =
+not-same-roles before after steps e =
     let x : FirstTwo before after = first-two before after steps in
     let f : rolesIn [] ≡ rolesIn (0 ∷ []) = sym (x .roles-before) ∙ (ap rolesOf e ∙ x .roles-after) in
     false≢true (ap (λ (S : Roles). S 0) f)
 
 -- and the count of events with a nonblocked member is 0, then 2
-pub counts-differ : (before after : ℕ → Lent) → Steps 2 worked asked before after
+pub counts-are : (before after : ℕ → Lent) → Steps 2 worked asked before after
     → (countIn (eventsOf (after 0 .events)) ≡ 0) × (countIn (eventsOf (after 1 .events)) ≡ 2)
 unfolding countBelow nonblocked blocked blocks conf first anyBelow
-counts-differ before after steps =
+counts-are before after steps =
     let x : FirstTwo before after = first-two before after steps in
     (ap countIn (x .no-events), ap countIn (x .three-events))
 
@@ -148,7 +147,7 @@ quiet t = lent t 0 (replicate WAITING-NUMBERS 0) (replicate EVENTS 0)
 from-quiet : (t : ℕ) → t < 2 → (a : Lent) × Outcome worked (asked t) (quiet t) Pass a
 from-quiet t b =
     let narrow : Narrow 16 (replicate WAITING-NUMBERS 0) = λ i l. subst (λ (x : ℕ). x < 2 ^ 16) (sym (getD-replicate {A = ℕ} WAITING-NUMBERS i 0 0 (omega (arith, l, length-replicate {A = ℕ} WAITING-NUMBERS 0)))) (omega arith) in
-    let o = step-there worked (asked t) (quiet t) (omega arith) narrow in
+    let o = step-total worked (asked t) (quiet t) (omega arith) narrow in
     let p : o .0 .0 ≡ Pass = o .1 .judged ∙ accepted t b (quiet t) (omega arith) (length-replicate {A = ℕ} WAITING-NUMBERS 0) (length-replicate {A = ℕ} EVENTS 0) in
     (o .0 .1, subst (λ (v : Verdict). Outcome worked (asked t) (quiet t) v (o .0 .1)) p (o .1))
 
@@ -158,9 +157,9 @@ at a b zero = a
 at a b (suc t) = b
 
 -- THE RUN of the first two minutes
-pub run-there : (before : ℕ → Lent) × (after : ℕ → Lent) × Steps 2 worked asked before after
+pub minutes-run : (before : ℕ → Lent) × (after : ℕ → Lent) × Steps 2 worked asked before after
 unfolding at rolesIn rowsIn anyBelow
-run-there =
+minutes-run =
     let x = from-quiet 0 (omega arith) in
     let y = from-quiet 1 (omega arith) in
     let s = minute-0 (quiet 0) (x .0) (zeros (quiet 0) 0 refl refl refl) (x .1) in

@@ -22,8 +22,8 @@ use Rattle.row_judge.specs.Judge.{Rules, sheetIn, judgeTables}
 use Rattle.judge.specs.Says.{Says}
 use Rattle.judge.specs.Laws.{judge-says, judge-passes, judge-refuses-not, judge-finds}
 use Rattle.order.specs.Order.{exactLengths}
-use Rattle.requests.specs.Requests.{firstOutside, judgeRequests}
-use Rattle.requests.specs.Laws.{AllFit, requests-pass, requests-fit}
+use Rattle.requests.specs.Requests.{firstOutside, judgeRequests, AllFit}
+use Rattle.requests.specs.Laws.{requests-pass, requests-fit}
 use Rattle.step.specs.Outcome.{Lent, lengthsFit, judgeStep}
 use Rattle.step.specs.Laws.Passes.{Accepted, Lengths, lengths-say, step-passes, step-accepts}
 use Rattle.claims.specs.Words.{Ordered}

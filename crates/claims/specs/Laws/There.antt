@@ -24,14 +24,14 @@ use Rattle.answers.specs.Answers.{refuse}
 use Rattle.answers.specs.Laws.{verdict-cases, no-pass}
 use Rattle.text.specs.Lines.{lines}
 use Rattle.tables.specs.Layout.{sheetOf}
-use Rattle.tables.specs.Buffers.{rolesOf, eventsOf}
+use Rattle.tables.specs.Buffers.{rolesOf, eventsOf, Narrow}
 use Rattle.tables.specs.Asked.{Asked}
-use Rattle.masks.specs.Laws.Held.{Narrow}
 use Rattle.after.specs.After.{rolesBelow}
 use Rattle.after.specs.Laws.{roles-are}
 use Rattle.row_judge.specs.Judge.{Rules, sheetIn}
 use Rattle.judge.specs.Laws.{judge-passes}
-use Rattle.requests.specs.Laws.{AllFit, requests-pass}
+use Rattle.requests.specs.Requests.{AllFit}
+use Rattle.requests.specs.Laws.{requests-pass}
 use Rattle.minute.specs.Minute.{refilled}
 use Rattle.step.specs.Outcome.{Lent, lent, judgeStep, Stepped, Outcome}
 use Rattle.step.specs.Exact.{step-exact, one-buffer-served}
@@ -77,8 +77,8 @@ module _ (R : Rules) (q : Asked) (l : Lent) (wide : l .roles < 2 ^ 64) (narrow :
       )
 
   -- THE THEOREM: an answer and what is lent after it, and exactly one of each
-  pub step-there : ExactlyOne (λ (o : Verdict × Lent). Outcome R q l (o .0) (o .1))
-  step-there =
+  pub step-total : ExactlyOne (λ (o : Verdict × Lent). Outcome R q l (o .0) (o .1))
+  step-total =
       ⊎-elim
       (λ (h : judgeStep R q l ≡ Pass).
       let s = stepped h in
@@ -114,15 +114,15 @@ by-answer input (Opens plan) h =
 by-answer input (Refuses r) h = subst Printing (sym (plan-refuses input (planned input .periodic) (planned input .triggers) (planned input .answer) refl r h)) (_, refl)
 
 -- THE THEOREM: an input has exactly one day
-pub day-there : (input : List ℕ) → ExactlyOne (Prints (opening input))
-day-there input = let s = by-answer input (planned input .answer) refl in (s .0, s .1, λ other y. prints-one input other (s .0) y (s .1))
+pub one-day : (input : List ℕ) → ExactlyOne (Prints (opening input))
+one-day input = let s = by-answer input (planned input .answer) refl in (s .0, s .1, λ other y. prints-one input other (s .0) y (s .1))
 
 -- and with any lent buffer exactly one outcome
-pub outcome-there : (input out : List ℕ) → ExactlyOne (λ (o : Printed × List ℕ). DayOutcome input out (o .0) (o .1))
-outcome-there input out =
+pub day-total : (input out : List ℕ) → ExactlyOne (λ (o : Printed × List ℕ). DayOutcome input out (o .0) (o .1))
+day-total input out =
     ⊎-elim
     (λ (h : eqb (length out) OUTPUT-BYTES ≡ true).
-    let d = day-there input in
+    let d = one-day input in
     let s : List ℕ = d .0 in
     one (record { verdict = answerTo (opening input); length = length s }) (s ++ drop (length s) out)
     (record { fits = λ _. record { printed = s; day = d .1; verdict = refl; size = refl; buffer = refl }; unfit = λ n. absurd (n (eqb-true _ _ h)) }))

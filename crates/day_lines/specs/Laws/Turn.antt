@@ -120,20 +120,20 @@ module _ (plan : Plan) (p t tape out₀ : List ℕ) (ok : Accepted plan p t tape
 
       -- the line that is printed
       line-is : (k : ℕ) → k ≡ countBelow EVENTS (nonblocked (eventsOf (a .events)) (eventsOf (a .events)))
-          → minuteLine (traceOf state events) n ≡ lineOf (minuteFrame n (r .roles) k)
+          → minuteLine (traceOf state events) n ≡ lineOf (minuteFrame n (r .enabled) k)
       unfolding minuteLine lineAt
       line-is k c =
-          let w : weightBelow ROLES (state (suc n) .roles) ≡ r .roles
-          = weight-is ROLES (r .roles) (state (suc n) .roles) (m .roles .1) (λ x. ap (λ (z : ℕ). rolesOf z x) (m .roles .0) ∙ ap (λ (f : Roles). f x) (same .1 .roles)) in
+          let w : weightBelow ROLES (state (suc n) .roles) ≡ r .enabled
+          = weight-is ROLES (r .enabled) (state (suc n) .roles) (m .roles .1) (λ x. ap (λ (z : ℕ). rolesOf z x) (m .roles .0) ∙ ap (λ (f : Roles). f x) (same .1 .roles)) in
           let e : countBelow EVENTS (nonblocked (events n) (events n)) ≡ k = ap (λ (S : Events). countBelow EVENTS (nonblocked S S)) (sym (same .0)) ∙ sym c in
           λ i. lineOf (minuteFrame n (w i) (e i))
 
     -- THE LAW: before the next instant
     pub standing-next : (k : ℕ) → k ≡ countBelow EVENTS (nonblocked (eventsOf (a .events)) (eventsOf (a .events)))
-        → (f : List ℕ) → f ≡ minuteFrame n (r .roles) k → (out′ : List ℕ) → out′ ≡ paste out (LINE * n) (lineOf f) (length (lineOf f))
+        → (f : List ℕ) → f ≡ minuteFrame n (r .enabled) k → (out′ : List ℕ) → out′ ≡ paste out (LINE * n) (lineOf f) (length (lineOf f))
         → Standing plan p t tape out₀ (n + 1) a (r .next) out′
     standing-next k c f g out′ e =
-        let z : length (lineOf f) ≡ LINE = omega (arith, length-line f, ap length g, length-minute n (r .roles) k) in
+        let z : length (lineOf f) ≡ LINE = omega (arith, length-line f, ap length g, length-minute n (r .enabled) k) in
         record {
           instant = stepped .step .instant ∙ omega (arith, s .instant);
           waiting = stepped .waiting-size;

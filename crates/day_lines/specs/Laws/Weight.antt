@@ -8,7 +8,7 @@ use native.Mathlib.Omega.{arith}
 use lib.Dec.{eqb}
 use Rattle.theory.specs.Events.{Roles}
 use borrow.Author.Tests.{eqb-true, eqb-false}
-use Rattle.tables.specs.Buffers.{bit, rolesOf}
+use Rattle.tables.specs.Buffers.{rolesOf}
 use Rattle.masks.specs.Laws.Bits.{bit-zero, bit-suc}
 use Rattle.day_lines.specs.Lines.{weightBelow}
 

@@ -1,6 +1,6 @@
 -- The tape under a day: the requests that a minute takes are those of its instant, all of them and no more than 32, and what is left goes on with the next.
 -- Assumes nothing.
-use mathlib.Core.Path.{_≡_, refl, sym, ap, ap₂, _∙_, subst}
+use mathlib.Core.Path.{_≡_, refl, ap, ap₂, _∙_, subst}
 use mathlib.Core.Logic.{⊎-elim}
 use mathlib.Core.Bool.{Bool, true, false, _&&_, _||_}
 use mathlib.Core.List.{List}
@@ -13,13 +13,12 @@ use borrow.Author.Tests.{ltb-true, lt-ltb, eqb-true, eq-eqb, ne-eqb}
 use Rattle.theory.specs.Numbers.{REQUESTS}
 use Rattle.theory.specs.Below.{anyBelow}
 use Rattle.theory.specs.Sheet.{is}
-use Rattle.theory.specs.Laws.Tests.{and-left, and-right, and-both, test, is-false, not-both}
+use Rattle.theory.specs.Laws.Tests.{and-left, and-right, and-both, test, is-false, not-both, same-or, or-turned}
 use Rattle.theory.specs.Laws.Below.{below-cases, any-same}
 use Rattle.text.specs.Lines.{Lines, none, endless, line}
 use Rattle.frames.specs.Frame.{bytesOf}
 use Rattle.tables.specs.Asked.{Request, requestAt, flat, asks}
-use Rattle.requests.specs.Requests.{fits}
-use Rattle.requests.specs.Laws.{AllFit}
+use Rattle.requests.specs.Requests.{fits, AllFit}
 use Rattle.requests.specs.Flat.{FLAT-NUMBERS, putAt}
 use Rattle.requests.specs.Laws.Flat.{put-before, put-here, put-size}
 use Rattle.tape_frames.specs.Frame.{askedIn}
@@ -64,7 +63,7 @@ step-over roles t n l ls g o = (
 -- ---- the requests of an instant
 
 -- after b the lines give c, all requests of instant t being taken, and some lines are left
-pub record Drawn (roles t : ℕ) (ls : Lines) (b c : Batch) (left : Lines) : Type 0 where
+record Drawn (roles t : ℕ) (ls : Lines) (b c : Batch) (left : Lines) : Type 0 where
   pub few : c .count ≤ REQUESTS
   pub fit : AllFit roles (flat (c .asked) (c .count))
   pub asked : (d e p : ℕ) → asks (flat (c .asked) (c .count)) d e p ≡ (asks (flat (b .asked) (b .count)) d e p || asksIn ls t d e p)
@@ -77,16 +76,6 @@ record Sound (roles t : ℕ) (ls : Lines) (b : Batch) : Type 0 where
   few : b .count ≤ REQUESTS
   fit : AllFit roles (flat (b .asked) (b .count))
   fine : Fine roles t (b .count) ls
-
-or-none : (a b : Bool) → b ≡ false → a ≡ (a || b)
-or-none true b h = refl
-or-none false b h = sym h
-
-or-turned : (r a x : Bool) → ((r || a) || x) ≡ (a || (r || x))
-or-turned true true x = refl
-or-turned true false x = refl
-or-turned false true x = refl
-or-turned false false x = refl
 
 -- one request more
 module _ (roles : ℕ) (b : Batch) (r : Request) (size : length (b .asked) ≡ FLAT-NUMBERS) (room : b .count < REQUESTS) where
@@ -117,8 +106,8 @@ one-more x t d e p a r k i =
 
 drawn : (roles t : ℕ) (ls : Lines) (b : Batch) → Sound roles t ls b → Drawn roles t ls b (takes t ls b) (rest t ls (b .count))
 unfolding takes rest asksIn isOf lineAsks
-drawn roles t none b s = record { few = s .few; fit = s .fit; asked = λ d e p. or-none _ _ refl; fine = tt; later = λ u d e p l. refl }
-drawn roles t (endless x) b s = record { few = s .few; fit = s .fit; asked = λ d e p. or-none _ _ refl; fine = tt; later = λ u d e p l. refl }
+drawn roles t none b s = record { few = s .few; fit = s .fit; asked = λ d e p. same-or _ _ refl; fine = tt; later = λ u d e p l. refl }
+drawn roles t (endless x) b s = record { few = s .few; fit = s .fit; asked = λ d e p. same-or _ _ refl; fine = tt; later = λ u d e p l. refl }
 drawn roles t (line x ls) b s =
     ⊎-elim
     (λ (h : (isOf t x && ltb (b .count) REQUESTS) ≡ true).
@@ -149,7 +138,7 @@ drawn roles t (line x ls) b s =
     record {
       few = s .few;
       fit = s .fit;
-      asked = λ d e p. or-none _ _ (quiet roles (suc t) 0 t (line x ls) g (omega arith) d e p);
+      asked = λ d e p. same-or _ _ (quiet roles (suc t) 0 t (line x ls) g (omega arith) d e p);
       fine = g;
       later = λ u d e p l. refl;
     })

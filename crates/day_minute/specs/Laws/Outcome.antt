@@ -13,7 +13,7 @@ use Rattle.batches.specs.declared.Batch.{Batch}
 use Rattle.day_minute.specs.Minute.{batchAt, restAt, MinuteOutcome}
 
 pub minute-of : (R : Rules) (tape : List ℕ) (at : ℕ) (before : Lent) (b : Batch) → (b ≡ batchAt tape at before) × (lines (drop (b .next) tape) ≡ restAt tape at before)
-    → (v : Verdict) (after : Lent) → Outcome R (flat (b .asked) (b .count)) before v after → after .roles < 2 ^ 64 → MinuteOutcome R tape at before (record { verdict = v; next = b .next; roles = after .roles }) after
+    → (v : Verdict) (after : Lent) → Outcome R (flat (b .asked) (b .count)) before v after → after .roles < 2 ^ 64 → MinuteOutcome R tape at before (record { verdict = v; next = b .next; enabled = after .roles }) after
 minute-of R tape at before b e v after x w =
     record {
       step = subst (λ (y : Batch). Outcome R (flat (y .asked) (y .count)) before v after) (e .0) x;

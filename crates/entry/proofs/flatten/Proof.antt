@@ -31,7 +31,7 @@ use denote.Memory.{pointee}
 use denote.Plain.{uint-makes, uint-lawful}
 use denote.Array.{Array, array-lawful, array-makes}
 use denote.Builtin.{u8, usize}
-use denote.Ref.{RefT, now}
+use denote.Ref.{RefT}
 use denote.Signature.{plain}
 use denote.Slice.{sliceTy, sliceVal, ShrSlice, Room, slice-vals, shr-slice-tells}
 use denote.Index.{place-is, elem-out, elem-back, looks-slice, shuts-slice}

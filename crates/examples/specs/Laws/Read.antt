@@ -21,7 +21,7 @@ use Rattle.line_acts.specs.Acts.{State}
 use Rattle.walks.specs.Walks.{Going, goes, refused}
 use Rattle.lines.specs.Lines.{reads}
 use Rattle.hand_out.specs.Out.{outcome, sheetRead, handed, byLoop}
-use Rattle.sheet.specs.Sheet.{start, byStep, lengthsFit, reading}
+use Rattle.sheet.specs.Sheet.{start, byLines, lengthsFit, reading}
 use Rattle.examples.specs.Day.{text, sheetLines, Day, filled, sheetOfDay}
 use Rattle.examples.specs.Passes.{same, readTo, readFound}
 
@@ -70,7 +70,7 @@ loopless s p t r p′ t′ k h x y =
 pub reads-to : (d : Day) → GoodOrder (sheetOfDay d) → NoLoop (sheetOfDay d) → readFound d ≡ true
     → reading (text (sheetLines (d .input))) (filled PERIODIC-TABLE []) (filled TRIGGER-TABLE [])
     ≡ outcome (Good (d .read)) (filled PERIODIC-TABLE (d .periodic)) (filled TRIGGER-TABLE (d .triggers))
-unfolding readFound reading byStep
+unfolding readFound reading byLines
 reads-to d good nl h =
     let fit : Bool = lengthsFit (length (text (sheetLines (d .input)))) (length (filled PERIODIC-TABLE [])) (length (filled TRIGGER-TABLE [])) in
     let r = read-to (reads (goes start) (lines (text (sheetLines (d .input))))) (d .read) (filled PERIODIC-TABLE (d .periodic)) (filled TRIGGER-TABLE (d .triggers)) (and-right fit _ h) in

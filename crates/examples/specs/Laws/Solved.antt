@@ -7,36 +7,19 @@ use mathlib.Core.List.{List}
 use Prim.Native.Nat.{ℕ, zero, suc, _≤_, _<_}
 use native.Mathlib.Omega.{arith}
 use lib.ListN.{length}
-use Rattle.theory.specs.Below.{anyBelow, allBelow}
+use Rattle.theory.specs.Below.{allBelow}
 use Rattle.theory.specs.Events.{Events, Roles}
-use Rattle.theory.specs.Sheet.{Trigger, Sheet}
+use Rattle.theory.specs.Sheet.{Sheet}
 use Rattle.theory.specs.Instant.{immediate, allows, met, ready, Closed, IsLeast, Solves}
-use Rattle.theory.specs.Laws.Tests.{and-left, and-right, and-both, or-cases, bool-ext, not-both}
-use Rattle.theory.specs.Laws.Below.{below-cases, any-elim, all-elim}
-use Rattle.theory.specs.Laws.Instant.{Part, met-mono}
-use Rattle.theory.specs.Laws.Exists.{headIs, is-only, fire, round}
+use Rattle.theory.specs.Laws.Tests.{and-left, and-right, and-both, bool-ext, not-both}
+use Rattle.theory.specs.Laws.Below.{below-cases, all-elim}
+use Rattle.theory.specs.Laws.Instant.{Part}
+use Rattle.theory.specs.Laws.Exists.{round, round-closed}
 use Rattle.examples.specs.Written.{Prioritized, at, first, among}
 use Rattle.examples.specs.Passes.{_⇒_, selfCaused}
 use Rattle.examples.specs.Laws.Listed.{passes-then, first-part}
 
 module _ (sh : Sheet) (on : ℕ → Bool) (G S : Events) where
-  -- what a round adds to a part of a closed set is in that set
-  round-in : (X Y : Events) → Part X Y → Closed sh on G S Y → Part (round sh on G S X) Y
-  unfolding round fire
-  round-in X Y s c e p h =
-      let fires : ℕ → Bool = λ i. fire sh on S X i && headIs (sh .trigger i) e p in
-      ⊎-elim
-      (λ (g : G e p ≡ true). c .holds-givens e p g)
-      (λ (b : anyBelow (sh .triggerCount) fires ≡ true).
-      let r = any-elim (sh .triggerCount) fires b in
-      let i : ℕ = r .0 in
-      let g : Trigger = sh .trigger i in
-      let f : (on i && met S X g) ≡ true = and-left (fire sh on S X i) (headIs g e p) (r .2) in
-      is-only Y (g .head) (g .priority) e p
-      (and-right (fire sh on S X i) (headIs g e p) (r .2))
-      (c .holds-heads i (r .1) (and-left (on i) (met S X g) f) (met-mono S X Y g s (and-right (on i) (met S X g) f))))
-      (or-cases (G e p) (anyBelow (sh .triggerCount) fires) h)
-
   -- each of the first k members is in every closed set
   members-in : (ms : List Prioritized) (Y : Events) → Closed sh on G S Y
       → ((i : ℕ) → i < length ms → round sh on G S (first i ms) (at ms i .event) (at ms i .priority) ≡ true)
@@ -45,7 +28,7 @@ module _ (sh : Sheet) (on : ℕ → Bool) (G S : Events) where
   members-in ms Y c d (suc k) l i m =
       let before : (i : ℕ) → i < k → Y (at ms i .event) (at ms i .priority) ≡ true = members-in ms Y c d k (omega arith) in
       ⊎-elim
-      (λ (e : i ≡ k). rw e (round-in (first k ms) Y (first-part k ms Y before) c (at ms k .event) (at ms k .priority) (d k (omega arith))))
+      (λ (e : i ≡ k). rw e (round-closed sh on G S (first k ms) Y (first-part k ms Y before) c (at ms k .event) (at ms k .priority) (d k (omega arith))))
       (λ (b : i < k). before i b)
       (below-cases m)
 

@@ -16,7 +16,7 @@ use Rattle.theory.specs.Numbers.{EVENTS, PRIORITIES, WAITING-ROWS, WAITING-NUMB
 use Rattle.theory.specs.Events.{Events}
 use Rattle.theory.specs.Laws.Tests.{test, is-false}
 use Rattle.theory.specs.Laws.OneSolution.{InBuffer}
-use Rattle.tables.specs.Buffers.{bit, rolesOf, eventsOf, waitingOf}
+use Rattle.tables.specs.Buffers.{bit, rolesOf, eventsOf, waitingOf, Narrow}
 use Rattle.masks.specs.Laws.Bits.{bit-none, bit-ext, bits-of}
 
 -- ---- equal sets are equal buffers
@@ -65,10 +65,6 @@ waiting-none k e p l =
     (test (ltb e EVENTS))
 
 -- ---- every set that fits is held
-
--- every number of the list is of w bits
-abbrev pub Narrow : ℕ → List ℕ → Type 0
-Narrow w l = (i : ℕ) → i < length l → getD l i 0 < 2 ^ w
 
 -- some list has the numbers f 0 to f (n − 1)
 numbers-of : (n : ℕ) (f : ℕ → ℕ) → (l : List ℕ) × (length l ≡ n) × ((i : ℕ) → i < n → getD l i 0 ≡ f i)

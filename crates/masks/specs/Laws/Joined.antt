@@ -24,7 +24,7 @@ bit-joined : (n p q : ℕ) → bit (bitOr n (2 ^ p)) q ≡ (bit n q || eqb p q)
 bit-joined n p q = bit-or n (2 ^ p) q ∙ ap (λ (b : Bool). bit n q || b) (bit-pow p q)
 
 -- the mask's priorities, and p
-pub priority-joined : (m p q : ℕ) → p < PRIORITIES → bit (withPriority m p) q ≡ (bit m q || eqb p q)
+priority-joined : (m p q : ℕ) → p < PRIORITIES → bit (withPriority m p) q ≡ (bit m q || eqb p q)
 unfolding withPriority
 priority-joined m p q h = rw (lt-ltb p PRIORITIES h) (bit-joined m p q)
 

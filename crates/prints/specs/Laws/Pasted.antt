@@ -33,7 +33,7 @@ paste-append d a b at n m p q h =
 pub two-pasted : (d : List ℕ) (at x y : ℕ) → at + 2 ≤ length d → set (set d at x) (at + 1) y ≡ paste d at (x ∷ y ∷ []) 2
 two-pasted d at x y h = rw add-one (sets-eq (x ∷ y ∷ []) d at h)
 
-pub hex-append : (f g : List ℕ) → hexOf (f ++ g) ≡ hexOf f ++ hexOf g
+hex-append : (f g : List ℕ) → hexOf (f ++ g) ≡ hexOf f ++ hexOf g
 hex-append [] g = refl
 hex-append (b ∷ f) g = ap (λ (r : List ℕ). digitOf (b / 16) ∷ digitOf (b % 16) ∷ r) (hex-append f g)
 

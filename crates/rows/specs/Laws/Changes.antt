@@ -9,10 +9,7 @@ use native.Mathlib.Omega.{arith}
 use lib.Dec.{eqb, ltb}
 use borrow.Author.Tests.{lt-ltb, le-ltb, ltb-true, ltb-false, eq-eqb, ne-eqb}
 use Rattle.theory.specs.Numbers.{EVENTS}
-use Rattle.theory.specs.Laws.Tests.{test}
-
-pub same-or : (a b : Bool) → b ≡ false → a ≡ (a || b)
-same-or a b e = rw (e, or-false) refl
+use Rattle.theory.specs.Laws.Tests.{test, same-or}
 
 -- no event is a number from 128 on
 pub past-event : (b x : ℕ) → x < EVENTS → EVENTS ≤ b → eqb b x ≡ false

@@ -14,8 +14,9 @@ use borrow.Author.Tests.{lt-ltb, eq-eqb, ne-eqb}
 use Rattle.theory.specs.Numbers.{EVENTS}
 use Rattle.theory.specs.Below.{anyBelow}
 use Rattle.theory.specs.Graph.{Edges}
+use Rattle.theory.specs.Laws.Tests.{same-or}
 use Rattle.rows.specs.Rows.{Row, reaches, edgesOf, RowIs, RowsAre, linked}
-use Rattle.rows.specs.Laws.Changes.{same-or, past-event}
+use Rattle.rows.specs.Laws.Changes.{past-event}
 use Rattle.rows.specs.Laws.Row.{row-same, empty-row, none-reached}
 
 pub rows-same : {E : Edges} {rows : List Row} (F : Edges) → ((a b : ℕ) → a < EVENTS → b < EVENTS → E a b ≡ F a b) → RowsAre E rows → RowsAre F rows

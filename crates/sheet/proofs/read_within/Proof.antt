@@ -3,7 +3,7 @@
 use mathlib.Core.Path.{ap, _∙_}
 use Rattle.walks.specs.Walks.{Going}
 use Rattle.line_acts.specs.Acts.{State}
-use Rattle.sheet.specs.Sheet.{byStep}
+use Rattle.sheet.specs.Sheet.{byLines}
 use Rattle.lines.specs.Laws.Took.{went, stopped}
 use borrow.Author.Needs.{needs}
 use Rattle.sheet.proofs.read_within.Statement.{statement}
@@ -40,21 +40,21 @@ same-length-2 : tie.Need-same-length-2
 same-length-2 c = search needs
 
 returns : tie.Need-returns
-unfolding byStep
+unfolding byLines
 returns c =
     let h = c .before .before .before .before in
     let w = h .before .before .before .before .before .before in
     let l = w .before .before .before .before in
     let s = l .before .before .before .before .before .before in
     h .hand-out .ensures
-    ∙ ap (λ (x : Going State). byStep x (s .args .periodics .now) (s .args .triggers .now)) (went _ _ _ _ _ (l .read-lines .ensures) (w .w .given .1))
+    ∙ ap (λ (x : Going State). byLines x (s .args .periodics .now) (s .args .triggers .now)) (went _ _ _ _ _ (l .read-lines .ensures) (w .w .given .1))
 
 returns-2 : tie.Need-returns-2
-unfolding byStep
+unfolding byLines
 returns-2 c =
     let l = c .before .before .before .before .before in
     let s = l .before .before .before .before .before .before in
-    ap (λ (x : Going State). byStep x (s .args .periodics .now) (s .args .triggers .now)) (stopped _ _ _ _ _ (l .read-lines .ensures) (c .before .w2 .given .1))
+    ap (λ (x : Going State). byLines x (s .args .periodics .now) (s .args .triggers .now)) (stopped _ _ _ _ _ (l .read-lines .ensures) (c .before .w2 .given .1))
 
 pub read-within-spec : {M : Type 1} → statement M
 read-within-spec =

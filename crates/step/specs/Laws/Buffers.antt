@@ -2,7 +2,7 @@
 -- Assumes nothing.
 use mathlib.Core.Path.{_≡_, refl, sym, ap, ap₂, _∙_, subst}
 use mathlib.Core.Logic.{⊎-elim}
-use mathlib.Core.Bool.{Bool, true, false, _&&_, _||_}
+use mathlib.Core.Bool.{Bool, true, _&&_, _||_, or-assoc}
 use mathlib.Core.List.{List}
 use Prim.Native.Nat.{ℕ, _+_, _≤_, _<_}
 use native.Mathlib.Omega.{arith}
@@ -12,10 +12,10 @@ use borrow.Author.Tests.{lt-ltb, ltb-true, eq-eqb}
 use Rattle.theory.specs.Numbers.{EVENTS, PRIORITIES, WAITING-ROWS, WAITING-NUMBERS, LONGEST-DELAY}
 use Rattle.theory.specs.Below.{anyBelow}
 use Rattle.theory.specs.Events.{Events, Roles}
-use Rattle.theory.specs.Sheet.{Periodic, Trigger, Sheet, GoodOrder, is, rowDue, due}
+use Rattle.theory.specs.Sheet.{Trigger, Sheet, GoodOrder, is, rowDue, due}
 use Rattle.theory.specs.Instant.{allows, met, waitsFor}
 use Rattle.theory.specs.Box.{row, givens, rowAfter}
-use Rattle.theory.specs.Laws.Tests.{and-left, and-right, and-both, or-left, or-right, or-cases, bool-ext}
+use Rattle.theory.specs.Laws.Tests.{and-left, and-right, and-both, or-left, or-right, or-cases, bool-ext, or-turned}
 use Rattle.theory.specs.Laws.Below.{any-intro, any-elim}
 use Rattle.theory.specs.Laws.Limits.{periodic-says}
 use Rattle.theory.specs.Laws.Exists.{is-only}
@@ -31,18 +31,10 @@ use Rattle.due.specs.Due.{dueAt}
 use Rattle.waiting.specs.Waiting.{copied, cleared, triggerEntry}
 use Rattle.waiting.specs.Laws.{copied-is, cleared-is}
 use Rattle.row_judge.specs.Judge.{Rules, sheetIn}
-use Rattle.requests.specs.Requests.{givenEntry, waitEntry}
-use Rattle.requests.specs.Laws.{AllFit, fit-says, asks-intro, asks-elim}
+use Rattle.requests.specs.Requests.{AllFit}
+use Rattle.requests.specs.Laws.{fit-says, asks-intro, asks-elim}
+use Rattle.asked.specs.Adds.{givenEntry, waitEntry}
 use Rattle.minute.specs.Minute.{filled, refilled}
-
-turned : (w d a : Bool) → ((w || d) || a) ≡ (d || (w || a))
-turned true true a = refl
-turned true false a = refl
-turned false d a = refl
-
-joined : (x a b : Bool) → ((x || a) || b) ≡ (x || (a || b))
-joined true a b = refl
-joined false a b = refl
 
 module _ (R : Rules) (good : GoodOrder (sheetIn R)) (q : Asked) (fit : AllFit (R .roleCount) q) where
   abbrev sh : Sheet
@@ -79,7 +71,7 @@ module _ (R : Rules) (good : GoodOrder (sheetIn R)) (q : Asked) (fit : AllFit (R
       (joins-events (copied l w t) (copied-size l w t h) (R .periodicCount) (dueAt (R .periodics) t) (λ i m _. due-within t i m) e p
       ∙ ap (λ (b : Bool). b || anyBelow (R .periodicCount) (λ i. rowDue (periodicAt (R .periodics) i) t && is (periodicAt (R .periodics) i .event) (periodicAt (R .periodics) i .priority) e p)) (copied-is l w t h e p))
       refl
-      ∙ turned (waitingOf w (row t) e p) _ _)
+      ∙ or-turned (waitingOf w (row t) e p) _ _)
 
   -- ---- what waits
 
@@ -179,5 +171,5 @@ module _ (R : Rules) (good : GoodOrder (sheetIn R)) (q : Asked) (fit : AllFit (R
         ∙ (ap (λ (b : Bool). b || anyBelow (R .triggerCount) (byTrigger k e p))
         (joins-waiting (cleared w t) (cleared-size w h) (q .count) (λ i. waitEntry t (q .request i)) (λ i. row (t + q .request i .delay)) (λ i. q .request i .event) (λ i _. refl)
         (λ i l _. let x = asked-within i l in (omega arith, x .0, x .1)) k e p)
-        ∙ (joined (waitingOf (cleared w t) k e p) (anyBelow (q .count) (byRequest k e p)) (anyBelow (R .triggerCount) (byTrigger k e p))
+        ∙ (or-assoc (waitingOf (cleared w t) k e p) (anyBelow (q .count) (byRequest k e p)) (anyBelow (R .triggerCount) (byTrigger k e p))
         ∙ ap₂ (λ (a b : Bool). a || b) (cleared-is w t h k e p) (rows-join k e p)))

@@ -2,9 +2,8 @@
 -- Assumes nothing.
 use mathlib.Core.Path.{_≡_, refl, ap, _∙_}
 use Prim.Native.Nat.{ℕ, _-_, _≤_}
-use native.Mathlib.Numerals.{add-one}
 use lib.ListN.{length}
-use lib.Seq.{paste, paste-zero, paste-suc}
+use lib.Seq.{paste, paste-zero}
 use Rattle.tables.specs.Laws.{copy-more}
 use borrow.Author.Needs.{needs}
 use native.Mathlib.Omega.{arith}

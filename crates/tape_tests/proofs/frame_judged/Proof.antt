@@ -5,6 +5,9 @@ use borrow.Author.Needs.{needs}
 use Rattle.tape_tests.proofs.frame_judged.Statement.{statement}
 use Rattle.tape_tests.proofs.frame_judged.Tie as tie
 
+instant-of-requires : tie.Need-instant-of-requires
+instant-of-requires c κs = search needs
+
 of-tape-requires : tie.Need-of-tape-requires
 of-tape-requires c κs = search needs
 
@@ -28,6 +31,7 @@ pub frame-judged-spec : {M : Type 1} → statement M
 frame-judged-spec =
     tie.close
     (tie.spec
+    instant-of-requires
     of-tape-requires
     has-room-requires
     in-time-requires

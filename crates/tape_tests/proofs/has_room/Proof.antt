@@ -10,21 +10,17 @@ use Rattle.tape_tests.proofs.has_room.Tie as tie
 byte-at-requires : tie.Need-byte-at-requires
 byte-at-requires c κs = search needs
 
-instant-of-requires : tie.Need-instant-of-requires
-instant-of-requires c κs = search needs
-
 either-requires : tie.Need-either-requires
 either-requires c κs = search needs
 
 returns : tie.Need-returns
 unfolding roomFor
-returns c = let t = c .before .before .before .before in
-    rw (eq-eqb _ _ (sym (t .before .byte-at .ensures) ∙ t .if1 .taken)) cc
+returns c = let d = c .before .before .before in
+    rw (eq-eqb _ _ (sym (d .before .byte-at .ensures) ∙ d .if1 .taken)) cc
 
 returns-2 : tie.Need-returns-2
 unfolding roomFor
 returns-2 c = rw (ne-eqb _ _ (λ e. c .if1 .left (c .before .byte-at .ensures ∙ e)))
 
 pub has-room-spec : {M : Type 1} → statement M
-has-room-spec =
-    tie.close (tie.spec byte-at-requires instant-of-requires either-requires returns returns-2)
+has-room-spec = tie.close (tie.spec byte-at-requires either-requires returns returns-2)

@@ -7,9 +7,6 @@ use borrow.Author.Needs.{needs}
 use Rattle.tape_tests.proofs.in_time.Statement.{statement}
 use Rattle.tape_tests.proofs.in_time.Tie as tie
 
-instant-of-requires : tie.Need-instant-of-requires
-instant-of-requires c κs = search needs
-
 byte-at-requires : tie.Need-byte-at-requires
 byte-at-requires c κs = search needs
 
@@ -18,13 +15,12 @@ both-requires c κs = search needs
 
 returns : tie.Need-returns
 unfolding inTime
-returns c = let t = c .before .before in
-    rw (eq-eqb _ _ (sym (t .before .byte-at .ensures) ∙ t .if1 .taken)) cc
+returns c = let d = c .before .before in
+    rw (eq-eqb _ _ (sym (d .before .byte-at .ensures) ∙ d .if1 .taken)) cc
 
 returns-2 : tie.Need-returns-2
 unfolding inTime
 returns-2 c = rw (ne-eqb _ _ (λ e. c .before .if1 .left (c .before .before .byte-at .ensures ∙ e))) cc
 
 pub in-time-spec : {M : Type 1} → statement M
-in-time-spec =
-    tie.close (tie.spec instant-of-requires byte-at-requires both-requires returns returns-2)
+in-time-spec = tie.close (tie.spec byte-at-requires both-requires returns returns-2)

@@ -3,7 +3,8 @@
 use mathlib.Core.Path.{_≡_}
 use Prim.Native.Nat.{_+_, _-_}
 use lib.ListN.{length, drop}
-use Rattle.text.specs.Laws.Lines.{span, span-here, span-more, span-end}
+use Rattle.text.specs.Lines.{span}
+use Rattle.text.specs.Laws.Lines.{span-here, span-more, span-end}
 use borrow.Author.Needs.{needs}
 use native.Mathlib.Omega.{arith}
 use Rattle.text.proofs.line_end.Statement.{statement}
@@ -15,6 +16,9 @@ Inv-loop text at i₀ i = i + span (drop i text) ≡ at + span (drop at text)
 abbrev μ-loop : tie.MeasureT-loop
 μ-loop text at i₀ i = length text - i
 
+near-end-requires : tie.Need-near-end-requires Inv-loop μ-loop
+near-end-requires c κs = search needs
+
 loop-holds : tie.Need-loop-holds Inv-loop μ-loop
 loop-holds c = search needs
 
@@ -24,7 +28,7 @@ shared-slice-read-if1 c = search needs
 returns : tie.Need-returns Inv-loop μ-loop
 returns c =
     let d = c .before .before .before in
-    let g = span-here (d .before .args .text .now) (d .loop .i) (search needs) (c .if1 .taken) in
+    let g = span-here (d .before .before .before .args .text .now) (d .loop .i) (search needs) (c .if1 .taken) in
     omega arith
 
 add-i : tie.Need-add-i Inv-loop μ-loop
@@ -36,11 +40,11 @@ loop-less c = search needs
 loop-again : tie.Need-loop-again Inv-loop μ-loop
 loop-again c =
     let d = c .before .before .before in
-    let g = span-more (d .before .args .text .now) (d .loop .i) (search needs) (c .if1 .left) in
+    let g = span-more (d .before .before .before .args .text .now) (d .loop .i) (search needs) (c .if1 .left) in
     omega arith
 
 returns-2 : tie.Need-returns-2 Inv-loop μ-loop
-returns-2 c = let g = span-end (c .before .before .args .text .now) (c .before .loop .i) (search needs) in omega arith
+returns-2 c = let g = span-end (c .before .before .before .before .args .text .now) (c .before .loop .i) (search needs) in omega arith
 
 pub line-end-spec : {M : Type 1} → statement M
 line-end-spec =
@@ -48,6 +52,7 @@ line-end-spec =
     (tie.spec
     Inv-loop
     μ-loop
+    near-end-requires
     loop-holds
     shared-slice-read-if1
     returns

@@ -1,8 +1,8 @@
 -- Laws of lines: a cursor at the start of a line, and where the line ends. What is left of the text from the cursor on is `drop at text`.
 -- Assumes nothing.
-use mathlib.Core.Path.{_≡_, refl, ap, _∙_}
+use mathlib.Core.Path.{_≡_, ap, _∙_}
 use mathlib.Core.Logic.{⊎-elim}
-use mathlib.Core.Bool.{Bool, true, false, cond}
+use mathlib.Core.Bool.{Bool, true, false, not, _&&_}
 use mathlib.Core.List.{List, [], _∷_}
 use Prim.Native.Nat.{ℕ, suc, _+_, _-_, _≤_, _<_}
 use native.Mathlib.Numerals.{add-one}
@@ -10,14 +10,9 @@ use native.Mathlib.Omega.{arith}
 use lib.Dec.{eqb}
 use lib.ListN.{length, getD, take, drop, length-drop, drop-of-length-le}
 use lib.Seq.{drop-drop, drop-cons}
-use borrow.Author.Tests.{eq-eqb, ne-eqb}
-use Rattle.theory.specs.Laws.Tests.{test}
-use Rattle.text.specs.Lines.{LINE-END, Lines, none, endless, line, onto, lines}
-
--- how many bytes stand before the first line end
-abbrev pub span : List ℕ → ℕ
-span [] = 0
-span (b ∷ text) = cond (eqb b LINE-END) 0 (suc (span text))
+use borrow.Author.Tests.{eqb-false, not-true, eq-eqb, ne-eqb}
+use Rattle.theory.specs.Laws.Tests.{and-left, and-right, test}
+use Rattle.text.specs.Lines.{LINE-END, endless, line, lines, span}
 
 span-le : (l : List ℕ) → span l ≤ length l
 span-le [] = omega arith
@@ -86,3 +81,11 @@ span-more l i h e = rw (here l i h, ne-eqb _ _ e) (omega arith)
 
 pub span-end : (l : List ℕ) (i : ℕ) → length l ≤ i → span (drop i l) ≡ 0
 span-end l i h = rw (drop-of-length-le l h)
+
+-- where none of k characters is a line end, and one more is none
+module _ (l : List ℕ) (i k : ℕ) (clear : Bool) (inv : clear ≡ true → span (drop i l) ≡ k + span (drop (i + k) l)) where
+  pub span-on : i + k < length l → (clear && not (eqb (getD l (i + k) 0) LINE-END)) ≡ true → span (drop i l) ≡ k + 1 + span (drop (i + (k + 1)) l)
+  span-on h t =
+      let e : i + (k + 1) ≡ i + k + 1 = omega arith in
+      let g = span-more l (i + k) h (eqb-false _ _ (not-true _ (and-right clear _ t))) in
+      rw e (omega (arith, inv (and-left clear _ t)))

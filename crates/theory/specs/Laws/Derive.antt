@@ -1,37 +1,20 @@
 -- Caused(S) by derivations: the least closed set holds exactly what can be derived. What is derived is in every closed set; what a round reaches is derived.
 -- Assumes nothing.
-use mathlib.Core.Path.{_≡_, refl, fun-ext, subst, subst₂}
-use mathlib.Core.Bool.{Bool, true, false, not, _&&_, _||_, false≢true}
+use mathlib.Core.Path.{_≡_, fun-ext, subst, subst₂}
+use mathlib.Core.Bool.{Bool, true, false, not, _&&_, false≢true}
 use mathlib.Core.Logic.{⊎-elim, _↔_}
 use Prim.Native.Nat.{ℕ, zero, suc, _<_}
-use native.Mathlib.Omega.{arith}
 use lib.Dec.{eqb}
 use borrow.Author.Tests.{eqb-true, not-true}
 use Rattle.theory.specs.Numbers.{PRIORITIES}
-use Rattle.theory.specs.Below.{anyBelow}
+use Rattle.theory.specs.Below.{anyBelow, firstBelow}
 use Rattle.theory.specs.Events.{Events, blocked, nonblocked}
 use Rattle.theory.specs.Sheet.{Trigger, Sheet}
 use Rattle.theory.specs.Instant.{met, Closed, IsLeast, Derives, given, fired}
 use Rattle.theory.specs.Laws.Tests.{and-left, and-right, and-both, or-cases, fails-not, bool-ext}
 use Rattle.theory.specs.Laws.Below.{any-intro, any-elim, all-intro, all-elim}
+use Rattle.theory.specs.Laws.First.{FirstAt, first-some}
 use Rattle.theory.specs.Laws.Exists.{headIs, fire, round, rounds, caused, caused-is}
-
--- the last number below n that passes
-pick : ℕ → (ℕ → Bool) → ℕ
-pick zero f = zero
-pick (suc n) f = elim (f n) [ true ↦ n | false ↦ pick n f ]
-
-pick-is : (n : ℕ) (f : ℕ → Bool) → anyBelow n f ≡ true → (pick n f < n) × (f (pick n f) ≡ true)
-unfolding pick anyBelow
-pick-is zero f h = absurd (false≢true h)
-pick-is (suc n) f h = go (f n) refl (pick-is n f)
-  where
-    chosen : Bool → ℕ
-    chosen b = elim b [ true ↦ n | false ↦ pick n f ]
-
-    go : (b : Bool) → f n ≡ b → (anyBelow n f ≡ true → (pick n f < n) × (f (pick n f) ≡ true)) → (chosen b < suc n) × (f (chosen b) ≡ true)
-    go true e r = (omega arith, e)
-    go false e r = let k : anyBelow n f ≡ true = rw e at h in (omega (arith, r k .0), r k .1)
 
 -- ---- a body that is met, as a priority for each of its events
 
@@ -40,28 +23,28 @@ module _ (S X : Events) (g : Trigger) where
   open-at j q = X (g .event j) q && not (blocked S (g .event j) q)
 
   -- q j is the priority of the body event j
-  pub record Chosen (q : ℕ → ℕ) : Type 0 where
+  record Chosen (q : ℕ → ℕ) : Type 0 where
     pub narrow : (j : ℕ) → j < g .eventCount → q j < PRIORITIES
     pub not-blocked : (j : ℕ) → j < g .eventCount → blocked S (g .event j) (q j) ≡ false
     pub member : (j : ℕ) → j < g .eventCount → X (g .event j) (q j) ≡ true
 
-  pub met-intro : (q : ℕ → ℕ) → Chosen q → met S X g ≡ true
+  met-intro : (q : ℕ → ℕ) → Chosen q → met S X g ≡ true
   unfolding met nonblocked
   met-intro q c =
       all-intro (g .eventCount) (λ j. nonblocked S X (g .event j)) (λ j l.
       any-intro PRIORITIES (open-at j) (q j) (c .narrow j l) (and-both (c .member j l) (fails-not (c .not-blocked j l))))
 
-  pub met-elim : met S X g ≡ true → (q : ℕ → ℕ) × Chosen q
+  met-elim : met S X g ≡ true → (q : ℕ → ℕ) × Chosen q
   unfolding met nonblocked
   met-elim h =
-      let q : ℕ → ℕ = λ j. pick PRIORITIES (open-at j) in
-      let is : (j : ℕ) → j < g .eventCount → (q j < PRIORITIES) × (open-at j (q j) ≡ true)
-      = λ j l. pick-is PRIORITIES (open-at j) (all-elim (g .eventCount) (λ j. nonblocked S X (g .event j)) h j l) in (
+      let q : ℕ → ℕ = λ j. firstBelow PRIORITIES (open-at j) in
+      let is : (j : ℕ) → j < g .eventCount → FirstAt PRIORITIES (open-at j) (q j)
+      = λ j l. first-some PRIORITIES (open-at j) (all-elim (g .eventCount) (λ j. nonblocked S X (g .event j)) h j l) in (
         q,
         record {
-          narrow = λ j l. is j l .0;
-          not-blocked = λ j l. not-true (blocked S (g .event j) (q j)) (and-right (X (g .event j) (q j)) (not (blocked S (g .event j) (q j))) (is j l .1));
-          member = λ j l. and-left (X (g .event j) (q j)) (not (blocked S (g .event j) (q j))) (is j l .1);
+          narrow = λ j l. is j l .below;
+          not-blocked = λ j l. not-true (blocked S (g .event j) (q j)) (and-right (X (g .event j) (q j)) (not (blocked S (g .event j) (q j))) (is j l .passes));
+          member = λ j l. and-left (X (g .event j) (q j)) (not (blocked S (g .event j) (q j))) (is j l .passes);
         },
       )
 

@@ -102,6 +102,10 @@ module _ (sh : Sheet) (on : ℕ → Bool) (G S : Events) where
       round-in X X (c .holds-givens) (λ i l f.
       c .holds-heads i l (and-left (on i) (met S X (sh .trigger i)) f) (and-right (on i) (met S X (sh .trigger i)) f))
 
+  -- what a round adds to a part of a closed set is in that set
+  pub round-closed : (X Y : Events) → Part X Y → Closed sh on G S Y → Part (round sh on G S X) Y
+  round-closed X Y s c e p h = part-of-closed Y c e p (round-mono X Y s e p h)
+
   -- ---- the rounds
 
   abbrev at : ℕ → Events
@@ -110,7 +114,7 @@ module _ (sh : Sheet) (on : ℕ → Bool) (G S : Events) where
   rounds-least : (Y : Events) → Closed sh on G S Y → (m : ℕ) → Part (at m) Y
   unfolding rounds
   rounds-least Y c zero = λ e p h. absurd (false≢true h)
-  rounds-least Y c (suc m) = λ e p h. part-of-closed Y c e p (round-mono (at m) Y (rounds-least Y c m) e p h)
+  rounds-least Y c (suc m) = round-closed (at m) Y (rounds-least Y c m) c
 
   rounds-grow : (m : ℕ) → Part (at m) (at (suc m))
   unfolding rounds

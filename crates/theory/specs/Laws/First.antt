@@ -8,9 +8,9 @@ use native.Mathlib.Decide.{decLt}
 use native.Mathlib.Numerals.{add-one}
 use native.Mathlib.Omega.{arith}
 use borrow.Author.Tests.{lt-ltb, le-ltb}
-use Rattle.theory.specs.Below.{firstBelow}
-use Rattle.theory.specs.Laws.Tests.{test}
-use Rattle.theory.specs.Laws.Below.{below-cases}
+use Rattle.theory.specs.Below.{anyBelow, firstBelow}
+use Rattle.theory.specs.Laws.Tests.{test, not-both}
+use Rattle.theory.specs.Laws.Below.{below-cases, any-elim}
 
 -- none below n passes
 abbrev pub NoneBelow : ℕ → (ℕ → Bool) → Type 0
@@ -66,7 +66,7 @@ first-says n f =
     (λ (r : (k : ℕ) × FirstAt n f k). inr (rw (first-is n f (r .0) (r .1 .below) (r .1 .passes) (r .1 .first)) (r .1)))
     (first-or n f)
 
-pub first-below : (n : ℕ) (f : ℕ → Bool) → firstBelow n f < n → FirstAt n f (firstBelow n f)
+first-below : (n : ℕ) (f : ℕ → Bool) → firstBelow n f < n → FirstAt n f (firstBelow n f)
 first-below n f l =
     ⊎-elim
     (λ (h : (firstBelow n f ≡ n) × NoneBelow n f). absurd (omega (arith, h .0)))
@@ -78,6 +78,13 @@ first-past n f l =
     ⊎-elim
     (λ (h : (firstBelow n f ≡ n) × NoneBelow n f). h .1)
     (λ (r : FirstAt n f (firstBelow n f)). absurd (omega (arith, r .below)))
+    (first-says n f)
+
+pub first-some : (n : ℕ) (f : ℕ → Bool) → anyBelow n f ≡ true → FirstAt n f (firstBelow n f)
+first-some n f h =
+    ⊎-elim
+    (λ (x : (firstBelow n f ≡ n) × NoneBelow n f). let r = any-elim n f h in not-both (r .2) (x .1 (r .0) (r .1)))
+    (λ (r : FirstAt n f (firstBelow n f)). r)
     (first-says n f)
 
 -- ---- a search from 0 on: nothing yet, one more that fails, the one that passes, and the end, where i has come to n

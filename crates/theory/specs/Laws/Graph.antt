@@ -2,14 +2,14 @@
 -- Assumes nothing.
 use mathlib.Core.Path.{_≡_, refl, subst₂}
 use mathlib.Core.Logic.{⊎-elim, _↔_}
-use mathlib.Core.Bool.{Bool, true, false, _&&_, _||_}
+use mathlib.Core.Bool.{Bool, true, _&&_}
 use Prim.Native.Nat.{ℕ, _<_}
 use native.Mathlib.Omega.{arith}
 use lib.Dec.{eqb}
 use borrow.Author.Tests.{eqb-true, eq-eqb}
 use Rattle.theory.specs.Numbers.{EVENTS}
 use Rattle.theory.specs.Below.{anyBelow}
-use Rattle.theory.specs.Sheet.{Trigger, Sheet}
+use Rattle.theory.specs.Sheet.{Sheet}
 use Rattle.theory.specs.Graph.{counts, node, drawn, plus, minus, edge}
 use Rattle.theory.specs.Laws.Tests.{and-left, and-right, and-both, or-left, or-right, or-cases}
 use Rattle.theory.specs.Laws.Below.{any-intro, any-elim}

@@ -5,12 +5,13 @@ use mathlib.Core.Path.{_≡_, refl, sym, ap, _∙_, fun-ext, subst, subst₂}
 use mathlib.Core.Bool.{Bool, true, false, not, cond, _&&_, _||_}
 use mathlib.Core.Logic.{_⊎_, inl, inr, ⊎-elim}
 use Prim.Native.Nat.{ℕ, zero, suc, _-_, _≤_, _<_}
+use native.Mathlib.Nat.{eq-zero-or-pos}
 use native.Mathlib.Omega.{arith}
 use lib.Dec.{eqb, ltb}
 use borrow.Author.Tests.{eqb-true, eq-eqb, ne-eqb, ltb-true, ltb-false, lt-ltb, le-ltb}
 use Rattle.theory.specs.Below.{anyBelow}
 use Rattle.theory.specs.Events.{Events, Roles}
-use Rattle.theory.specs.Sheet.{Trigger, Sheet, is, due}
+use Rattle.theory.specs.Sheet.{Trigger, Sheet, due}
 use Rattle.theory.specs.Instant.{Requests, allows, met, ready, Closed, Solves, waitsFor}
 use Rattle.theory.specs.Model.{Stream, Trace, Meets, IsCausedIn}
 use Rattle.theory.specs.Laws.Tests.{and-left, and-right, and-both, or-left, or-right, or-cases, test}
@@ -98,10 +99,6 @@ givensAt sh RQ tr t e p = due sh t e p || (waits sh RQ tr t t e p || RQ t 0 e p)
 abbrev pub SolvesAt : Sheet → Stream → Trace → ℕ → Type 0
 SolvesAt sh RQ tr t = Solves sh (tr .ST t) (givensAt sh RQ tr t) (tr .EV t)
 
-zero-or : (n : ℕ) → (n ≡ 0) ⊎ (0 < n)
-zero-or zero = inl refl
-zero-or (suc n) = inr (omega arith)
-
 module _ (sh : Sheet) (RQ : Stream) (tr : Trace) where
   given-due : (t : ℕ) → Part (due sh t) (givensAt sh RQ tr t)
   unfolding givensAt
@@ -181,7 +178,7 @@ module _ (sh : Sheet) (RQ : Stream) (tr : Trace) where
               let k : t - d ≡ t = omega arith in
               h t .closed .holds-givens e p (given-asked t e p (rw o at (rw k at x))))
               (λ (o : 0 < d). from-before t d e p l o (waits-asked sh (RQ (t - d)) (tr .ST (t - d)) (tr .EV (t - d)) d e p o x))
-              (zero-or d);
+              (eq-zero-or-pos d);
           trigger = λ t i l dl al b.
               let g : Trigger = sh .trigger i in
               let s : ℕ = t - g .delay in
@@ -190,7 +187,7 @@ module _ (sh : Sheet) (RQ : Stream) (tr : Trace) where
               let k : s ≡ t = omega arith in
               h t .closed .holds-heads i l (and-both (eq-eqb (g .delay) 0 o) (rw k at al)) (rw k at b))
               (λ (o : 0 < g .delay). from-before t (g .delay) (g .head) (g .priority) dl o (waits-head sh (RQ s) (tr .ST s) (tr .EV s) (g .delay) i o l refl al b))
-              (zero-or (g .delay));
+              (eq-zero-or-pos (g .delay));
         }
 
     least-below : (Y : ℕ → Events) → Meets sh RQ tr Y → (k t : ℕ) → t < k → Part (tr .EV t) (Y t)
@@ -257,7 +254,7 @@ module _ (sh : Sheet) (RQ : Stream) (tr : Trace) where
               y .holds-givens e p
               (given-waits r t (omega arith) e p
               (subst (λ (n : ℕ). waitsFor sh (RQ r) (tr .ST r) (tr .EV r) n e p ≡ true) x (waits-asked sh (RQ r) (tr .ST r) (tr .EV r) d e p o h))))
-              (zero-or d));
+              (eq-zero-or-pos d));
           trigger = λ s i l k al b.
               let g : Trigger = sh .trigger i in
               let r : ℕ = s - g .delay in
@@ -276,7 +273,7 @@ module _ (sh : Sheet) (RQ : Stream) (tr : Trace) where
               let x : g .delay ≡ t - r = omega arith in
               y .holds-givens (g .head) (g .priority)
               (given-waits r t (omega arith) (g .head) (g .priority) (waits-head sh (RQ r) (tr .ST r) (tr .EV r) (t - r) i (omega arith) l x al (before (omega arith)))))
-              (zero-or (g .delay)));
+              (eq-zero-or-pos (g .delay)));
         }
 
     -- THE THEOREM, the other way: where EV(t) = Caused(t) at every t, each instant solves its equation

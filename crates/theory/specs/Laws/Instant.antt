@@ -1,10 +1,10 @@
 -- Laws of blocking and of a trigger's body: what they ask of the sets.
 -- Assumes nothing.
 use mathlib.Core.Path.{_≡_, refl, sym, ap, _∙_}
-use mathlib.Core.Bool.{Bool, true, false, not, _&&_}
+use mathlib.Core.Bool.{true, not, _&&_}
 use Prim.Native.Nat.{ℕ, _<_}
 use Rattle.theory.specs.Numbers.{PRIORITIES}
-use Rattle.theory.specs.Events.{Events, conf, blocks, blocked, nonblocked}
+use Rattle.theory.specs.Events.{Events, conf, blocked, nonblocked}
 use Rattle.theory.specs.Sheet.{Trigger}
 use Rattle.theory.specs.Instant.{met}
 use Rattle.theory.specs.Laws.Tests.{and-left, and-right, and-both}
@@ -15,11 +15,11 @@ abbrev pub Part : Events → Events → Type 0
 Part X Y = (e p : ℕ) → X e p ≡ true → Y e p ≡ true
 
 -- what blocks p:e are members of the conflicting event alone
-pub blocked-same : (S S′ : Events) (e p : ℕ) → S (conf e) ≡ S′ (conf e) → blocked S e p ≡ blocked S′ e p
+blocked-same : (S S′ : Events) (e p : ℕ) → S (conf e) ≡ S′ (conf e) → blocked S e p ≡ blocked S′ e p
 unfolding blocked
 blocked-same S S′ e p a = rw a refl
 
-pub nonblocked-map : (S S′ X X′ : Events) (e : ℕ) → S (conf e) ≡ S′ (conf e) → ((q : ℕ) → X e q ≡ true → X′ e q ≡ true) → nonblocked S X e ≡ true → nonblocked S′ X′ e ≡ true
+nonblocked-map : (S S′ X X′ : Events) (e : ℕ) → S (conf e) ≡ S′ (conf e) → ((q : ℕ) → X e q ≡ true → X′ e q ≡ true) → nonblocked S X e ≡ true → nonblocked S′ X′ e ≡ true
 unfolding nonblocked
 nonblocked-map S S′ X X′ e a m h =
     any-map PRIORITIES (λ q. X e q && not (blocked S e q)) (λ q. X′ e q && not (blocked S′ e q))

@@ -1,17 +1,17 @@
 -- Levels that meet the rule are there exactly when there is no loop. One way, a walk never falls and a − edge rises. The other way, take for each event how many
 -- events reach it: along an edge all that reached its start reach its end, and on a − edge without a cycle the end counts itself besides.
 -- Assumes nothing.
-use mathlib.Core.Path.{_≡_, refl, sym, ap, _∙_, subst}
+use mathlib.Core.Path.{_≡_, refl, ap}
 use mathlib.Core.Logic.{⊎-elim, _↔_}
-use mathlib.Core.Bool.{Bool, true, false, cond, _&&_, _||_}
+use mathlib.Core.Bool.{Bool, true, false, cond}
 use Prim.Native.Nat.{ℕ, suc, _≤_, _<_}
 use native.Mathlib.Omega.{arith}
 use borrow.Author.Tests.{eqb-true}
 use Rattle.theory.specs.Numbers.{EVENTS}
 use Rattle.theory.specs.Events.{Roles, conf}
-use Rattle.theory.specs.Sheet.{Trigger, Sheet}
+use Rattle.theory.specs.Sheet.{Sheet}
 use Rattle.theory.specs.Instant.{allows, immediate, ready}
-use Rattle.theory.specs.Graph.{counts, node, drawn, plus, minus, edge, Reaches, here, onward, OnCycle, NoLoop, Levels}
+use Rattle.theory.specs.Graph.{counts, node, plus, minus, edge, Reaches, here, onward, NoLoop, Levels}
 use Rattle.theory.specs.LoopTest.{reach, levelOf}
 use Rattle.theory.specs.Laws.Tests.{and-left, or-cases, test, is-false}
 use Rattle.theory.specs.Laws.Below.{count-le, count-mono, count-strict}

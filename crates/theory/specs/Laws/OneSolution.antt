@@ -1,7 +1,7 @@
 -- Demand 3 on the model's level: of a sheet in good order without a loop, with any roles and any givens, exactly one set solves the equation.
 -- Assumes nothing.
 use mathlib.Core.Path.{_≡_}
-use mathlib.Core.Bool.{Bool, true, _&&_}
+use mathlib.Core.Bool.{true, _&&_}
 use Prim.Native.Nat.{ℕ, suc, _≤_, _<_}
 use native.Mathlib.Omega.{arith}
 use lib.Dec.{ltb}
@@ -9,7 +9,7 @@ use borrow.Author.Tests.{ltb-true, lt-ltb}
 use Rattle.theory.specs.Numbers.{EVENTS, PRIORITIES}
 use Rattle.theory.specs.Below.{ExactlyOne}
 use Rattle.theory.specs.Events.{Events, Roles}
-use Rattle.theory.specs.Sheet.{Trigger, Sheet, GoodOrder}
+use Rattle.theory.specs.Sheet.{Sheet, GoodOrder}
 use Rattle.theory.specs.Instant.{ready, Closed, Solves}
 use Rattle.theory.specs.Graph.{NoLoop, Levels}
 use Rattle.theory.specs.LoopTest.{levelOf}
@@ -36,7 +36,7 @@ module _ (sh : Sheet) (level : ℕ → ℕ) (lv : Levels sh level) (ST : Roles) 
   levels-unique G = unique sh (ready sh ST) G (up sh level) ready-stratified
 
   -- and where the levels are bounded, there is one
-  pub levels-one : (m : ℕ) → ((e : ℕ) → level e ≤ m) → (G : Events) → ExactlyOne (Solves sh ST G)
+  levels-one : (m : ℕ) → ((e : ℕ) → level e ≤ m) → (G : Events) → ExactlyOne (Solves sh ST G)
   levels-one m h G =
       let S : Events = solving sh (ready sh ST) G (suc (suc m)) in
       let s : Solves sh ST G S = solved sh (ready sh ST) G (up sh level) ready-stratified (suc (suc m)) (λ e. omega (arith, up-most sh level lv m h e)) in

@@ -3,7 +3,7 @@
 -- Assumes nothing.
 use mathlib.Core.Path.{_≡_, refl}
 use mathlib.Core.Logic.{_⊎_, inl, inr, ⊎-elim, _↔_}
-use mathlib.Core.Bool.{Bool, true, false, _&&_, _||_}
+use mathlib.Core.Bool.{true, _&&_, _||_}
 use Prim.Native.Nat.{ℕ, zero, suc, _+_, _<_}
 use native.Mathlib.Numerals.{add-one}
 use native.Mathlib.Omega.{arith}
@@ -66,13 +66,13 @@ module _ (E : Edges) where
   through-edge (suc k) a b e = through-direct k a b (through-edge k a b e)
 
   -- phase k changes neither column k nor row k: it can be done in place
-  pub column-kept : (k a : ℕ) → w (suc k) a k ≡ w k a k
+  column-kept : (k a : ℕ) → w (suc k) a k ≡ w k a k
   column-kept k a =
       bool-ext (w (suc k) a k) (w k a k)
       (λ h. ⊎-elim (λ (d : w k a k ≡ true). d) (λ (v : (w k a k ≡ true) × (w k k k ≡ true)). v .0) (through-cases k a k h))
       (through-direct k a k)
 
-  pub row-kept : (k b : ℕ) → w (suc k) k b ≡ w k k b
+  row-kept : (k b : ℕ) → w (suc k) k b ≡ w k k b
   row-kept k b =
       bool-ext (w (suc k) k b) (w k k b)
       (λ h. ⊎-elim (λ (d : w k k b ≡ true). d) (λ (v : (w k k k ≡ true) × (w k k b ≡ true)). v .1) (through-cases k k b h))

@@ -2,9 +2,9 @@
 -- wait never meets the instant's own row, and after it that row stands for t + 61.
 -- Assumes nothing.
 use mathlib.Core.Path.{_≡_, refl, sym, ap, ap₂, _∙_, subst}
-use mathlib.Core.Bool.{Bool, true, false, not, _&&_, _||_}
+use mathlib.Core.Bool.{Bool, true, false, not, _&&_, _||_, or-comm}
 use mathlib.Core.Logic.{⊎-elim}
-use Prim.Native.Nat.{ℕ, zero, suc, _+_, _-_, _%_, _≤_, _<_}
+use Prim.Native.Nat.{ℕ, zero, suc, _+_, _-_, _≤_, _<_}
 use native.Mathlib.Omega.{arith}
 use lib.Dec.{eqb}
 use borrow.Author.Tests.{eqb-true, eq-eqb, ne-eqb}
@@ -15,16 +15,10 @@ use Rattle.theory.specs.Sheet.{Sheet}
 use Rattle.theory.specs.Instant.{Requests, waitsFor}
 use Rattle.theory.specs.Model.{Stream, Trace}
 use Rattle.theory.specs.Box.{State, row, rowAfter, Step, Fresh, Within}
-use Rattle.theory.specs.Laws.Tests.{and-left, and-right, and-both, or-cases, is-false, bool-ext}
+use Rattle.theory.specs.Laws.Tests.{and-left, and-right, and-both, is-false, bool-ext}
 use Rattle.theory.specs.Laws.Below.{below-cases, any-intro, any-elim}
 use Rattle.theory.specs.Laws.Limits.{request-says}
 use Rattle.theory.specs.Laws.History.{Sent, waits-later, waits-cases, waitsFrom, waits}
-
-or-swap : (a b : Bool) → (a || b) ≡ (b || a)
-or-swap true true = refl
-or-swap true false = refl
-or-swap false true = refl
-or-swap false false = refl
 
 -- no trigger waits longer than the longest delay
 abbrev pub ShortDelays : Sheet → Type 0
@@ -125,14 +119,14 @@ module _ (sh : Sheet) (RQ : Stream) (short : ShortDelays sh) (within : Within sh
       rw k (h u e p (omega arith) (omega arith)))
       (below-cases {n = t + WAITING-ROWS} (omega arith))
 
-  pub next-stands : (t : ℕ) (st : State) (w : ℕ → Events) → st .instant ≡ t → st .roles ≡ tr .ST t → Stands t (st .waiting)
+  next-stands : (t : ℕ) (st : State) (w : ℕ → Events) → st .instant ≡ t → st .roles ≡ tr .ST t → Stands t (st .waiting)
       → ((k e p : ℕ) → k < WAITING-ROWS → w k e p ≡ rowAfter sh (RQ t) st (tr .EV t) k e p) → Stands (suc t) w
   unfolding rowAfter
   next-stands t st w n r h f u e p l m =
       f (row u) e p (omega arith)
       ∙ (rw (n, r)
       (ap₂ (λ (a b : Bool). a || b) (kept-is t (st .waiting) h u e p (omega arith) (omega arith)) (joins-is t u e p (omega arith) (omega arith))
-      ∙ (or-swap (waits sh RQ tr t u e p) (waitsFrom sh RQ tr t u e p) ∙ sym (waits-next t u e p))))
+      ∙ (or-comm (waits sh RQ tr t u e p) (waitsFrom sh RQ tr t u e p) ∙ sym (waits-next t u e p))))
 
 -- ---- along the steps of a box
 

@@ -2,7 +2,7 @@
 -- exactly one execution model over all instants, and the run agrees with it in every event and every role.
 -- Assumes nothing.
 use mathlib.Core.Path.{_≡_, refl, sym, ap, ap₂, _∙_, fun-ext, subst, subst₂}
-use mathlib.Core.Bool.{Bool, true, false, not, _&&_, _||_}
+use mathlib.Core.Bool.{Bool, not, _&&_, _||_}
 use mathlib.Core.Logic.{⊎-elim}
 use Prim.Native.Nat.{ℕ, zero, suc, _+_, _-_, _≤_, _<_}
 use native.Mathlib.Omega.{arith}
@@ -13,12 +13,12 @@ use Rattle.theory.specs.Events.{Events, Roles}
 use Rattle.theory.specs.Sheet.{Sheet, GoodOrder, due}
 use Rattle.theory.specs.Instant.{Requests, Solves, waitsFor, rolesAfter}
 use Rattle.theory.specs.Graph.{NoLoop}
-use Rattle.theory.specs.Model.{Stream, Trace, IsCausedIn, ExecutionModel, noRoles}
+use Rattle.theory.specs.Model.{Stream, Trace, ExecutionModel, noRoles}
 use Rattle.theory.specs.Box.{State, row, givens, rowAfter, Step, Fresh, Run, Within, SameState, Follows}
 use Rattle.theory.specs.Laws.Below.{below-cases, any-same}
 use Rattle.theory.specs.Laws.Exists.{none}
 use Rattle.theory.specs.Laws.OneSolution.{good-trigger, one-solution}
-use Rattle.theory.specs.Laws.History.{waitsFrom, waits, givensAt, SolvesAt, solves-caused, caused-solves}
+use Rattle.theory.specs.Laws.History.{waitsFrom, waits, givensAt, solves-caused, caused-solves}
 use Rattle.theory.specs.Laws.Rows.{ShortDelays, traceOf, rows-stand}
 
 -- ---- a box that steps on for ever is an execution model

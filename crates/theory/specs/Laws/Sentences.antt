@@ -3,13 +3,12 @@
 -- Assumes nothing.
 use mathlib.Core.Path.{_≡_, refl, sym, ap, _∙_}
 use mathlib.Core.Logic.{_⊎_, inl, inr, ⊎-elim, _↔_}
-use mathlib.Core.Bool.{Bool, true, false, not, cond, _&&_, _||_}
+use mathlib.Core.Bool.{Bool, true, false, not, _&&_, _||_, and-true, or-false}
 use Prim.Native.Nat.{ℕ, _+_, _-_, _*_, _/_, _%_, _≤_, _<_}
 use native.Mathlib.Omega.{arith}
 use lib.Dec.{leb, ltb, eqb}
-use borrow.Author.Tests.{ltb-true, ltb-false, lt-ltb, leb-true, leb-false, le-leb, eqb-true, eq-eqb, ne-eqb, not-true}
+use borrow.Author.Tests.{ltb-true, lt-ltb, leb-true, leb-false, le-leb, eqb-true, eq-eqb, ne-eqb, not-true}
 use Rattle.theory.specs.Numbers.{PRIORITIES, NO-END}
-use Rattle.theory.specs.Below.{anyBelow}
 use Rattle.theory.specs.Events.{Events, Roles, disable, enable, odd, conf, holds, blocks, blocked, nonblocked}
 use Rattle.theory.specs.Sheet.{Periodic, Trigger, Sheet, is, untilEnd, rowDue, due}
 use Rattle.theory.specs.Instant.{Requests, allows, rolesAfter}
@@ -17,7 +16,7 @@ use Rattle.theory.specs.Graph.{counts, node, drawn, plus, minus}
 use Rattle.theory.specs.Box.{State, givens}
 use Rattle.theory.specs.Laws.Tests.{and-left, and-right, and-both, or-left, or-right, or-cases, test, is-false, not-both, fails-not}
 use Rattle.theory.specs.Laws.Below.{any-intro, any-elim, all-intro, all-elim}
-use Rattle.theory.specs.Laws.Graph.{counts-says, DrawnBy, drawn-by, drawn-elim}
+use Rattle.theory.specs.Laws.Graph.{counts-says, drawn-by, drawn-elim}
 
 -- ---- numbers of events and conditions
 
@@ -122,11 +121,7 @@ after-removes ST S r h =
 -- others kept
 pub after-keeps : (ST : Roles) (S : Events) (r : ℕ) → nonblocked S S (enable r) ≡ false → nonblocked S S (disable r) ≡ false → rolesAfter ST S r ≡ ST r
 unfolding rolesAfter
-after-keeps ST S r h k = rw (h, k) (keep (ST r))
-  where
-    keep : (b : Bool) → ((b || false) && true) ≡ b
-    keep true = refl
-    keep false = refl
+after-keeps ST S r h k = rw (h, k) (and-true (ST r || false) ∙ or-false (ST r))
 
 -- ---- due
 

@@ -1,8 +1,8 @@
 -- Laws of tests: what passes, what fails, and both by parts. (`borrow.Author.Tests` has those of comparisons and of `not`.)
 -- Assumes nothing.
-use mathlib.Core.Path.{_≡_, refl, sym, _∙_}
+use mathlib.Core.Path.{_≡_, refl, sym, ap, _∙_}
 use mathlib.Core.Logic.{_⊎_, inl, inr}
-use mathlib.Core.Bool.{Bool, true, false, not, _&&_, _||_, true≢false, false≢true}
+use mathlib.Core.Bool.{Bool, true, false, not, _&&_, _||_, or-false, or-comm, or-assoc, true≢false, false≢true}
 
 pub and-left : (a b : Bool) → (a && b) ≡ true → a ≡ true
 and-left true b h = refl
@@ -33,6 +33,14 @@ or-none-left false b h = refl
 pub or-none-right : (a b : Bool) → (a || b) ≡ false → b ≡ false
 or-none-right true b h = absurd (true≢false h)
 or-none-right false b h = h
+
+-- a test that fails adds nothing
+pub same-or : (a b : Bool) → b ≡ false → a ≡ (a || b)
+same-or a b e = rw (e, or-false) refl
+
+-- the second of three comes first
+pub or-turned : (a b c : Bool) → ((a || b) || c) ≡ (b || (a || c))
+or-turned a b c = ap (λ (x : Bool). x || c) (or-comm a b) ∙ or-assoc b a c
 
 -- a test passes or fails
 pub test : (b : Bool) → (b ≡ true) ⊎ (b ≡ false)

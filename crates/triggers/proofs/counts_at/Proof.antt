@@ -1,12 +1,12 @@
--- `edges::counts_at` meets its contract: the delay is read and compared.
+-- `triggers::counts_at` meets its contract: a trigger counts when its delay is 0.
 -- Assumes nothing.
 use mathlib.Core.Path.{refl, _∙_}
 use Rattle.theory.specs.Graph.{counts}
 use Rattle.tables.specs.Layout.{sheetOf}
 use Rattle.tables.specs.Laws.{delay-byte}
 use borrow.Author.Needs.{needs}
-use Rattle.edges.proofs.counts_at.Statement.{statement}
-use Rattle.edges.proofs.counts_at.Tie as tie
+use Rattle.triggers.proofs.counts_at.Statement.{statement}
+use Rattle.triggers.proofs.counts_at.Tie as tie
 
 trigger-byte-requires : tie.Need-trigger-byte-requires
 trigger-byte-requires c κs = search needs

@@ -1,50 +1,32 @@
--- The contract of this crate's public function leaves one possible answer; and what that answer says in document 01's words, for triggers whose heads are events.
+-- What the loop test's answer says in document 01's words, for triggers whose heads are events.
 -- Assumes nothing.
 use mathlib.Core.Path.{_≡_, sym, ap, _∙_}
-use mathlib.Core.Logic.{⊎-elim, by-cases, _↔_}
-use mathlib.Core.List.{List}
+use mathlib.Core.Logic.{⊎-elim, _↔_}
 use Prim.Native.Nat.{ℕ, _≤_, _<_}
-use native.Mathlib.Decide.{decLt}
 use native.Mathlib.Omega.{arith}
-use lib.ListN.{List·getD-eq-default}
 use Rattle.theory.specs.Numbers.{EVENTS}
 use Rattle.theory.specs.Events.{conf}
 use Rattle.theory.specs.Sheet.{Sheet}
 use Rattle.theory.specs.Graph.{NoLoop, pairPlace, LoopAt, Levels}
 use Rattle.theory.specs.LoopTest.{PAIRS, loopPlace, levelOf}
-use Rattle.theory.specs.Laws.Exact.{exact}
 use Rattle.theory.specs.Laws.Graph.{HeadsBelow, drawn-intro, drawn-from}
-use Rattle.theory.specs.Laws.Levels.{level-most, noloop-levels}
+use Rattle.theory.specs.Laws.Levels.{noloop-levels}
 use Rattle.theory.specs.Laws.Loop.{loop-or, noloop-says, loop-says}
-use Rattle.tables.specs.Layout.{triggersOf}
+use Rattle.tables.specs.Layout.{byteAt}
 use Rattle.loops.specs.declared.Found.the-variants.{At, Nothing}
 use Rattle.loops.specs.declared.Tested.{Tested}
-use Rattle.loops.specs.Tested.{foundAt, tabulate, tested, levelIn}
+use Rattle.loops.specs.Tested.{foundAt, tested}
 use Rattle.loops.specs.Laws.Search.{found-past, found-pair, found-at, found-nothing}
-use Rattle.loops.specs.Laws.Levels.{length-tabulate, getD-tabulate}
-
-pub loop-test-exact : (table : List ℕ) (n : ℕ) (r r′ : Tested) → r ≡ tested (triggersOf n table) → r′ ≡ tested (triggersOf n table) → r ≡ r′
-loop-test-exact table n r r′ = exact
+use Rattle.loops.specs.Laws.Levels.{getD-tabulate}
 
 module _ (sh : Sheet) (r : Tested) (h : r ≡ tested sh) where
   found-is : r .found ≡ foundAt (loopPlace sh)
   unfolding tested
   found-is = ap (λ (t : Tested). t .found) h
 
-  level-is : (e : ℕ) → e < EVENTS → levelIn r e ≡ levelOf sh e
+  level-is : (e : ℕ) → e < EVENTS → byteAt (r .levels) e ≡ levelOf sh e
   unfolding tested
-  level-is e l = ap (λ (t : Tested). levelIn t e) h ∙ getD-tabulate EVENTS (levelOf sh) e l
-
-  level-past : (e : ℕ) → EVENTS ≤ e → levelIn r e ≡ 0
-  unfolding tested
-  level-past e l = ap (λ (t : Tested). levelIn t e) h ∙ List·getD-eq-default (tabulate EVENTS (levelOf sh)) 0 (omega (arith, length-tabulate EVENTS (levelOf sh)))
-
-  -- no level is above 128
-  pub levels-most : (e : ℕ) → levelIn r e ≤ EVENTS
-  levels-most e =
-      by-cases (decLt e EVENTS)
-      (λ (l : e < EVENTS). omega (arith, level-is e l, level-most sh e))
-      (λ (n : ¬ (e < EVENTS)). omega (arith, level-past e (omega arith)))
+  level-is e l = ap (λ (t : Tested). byteAt (t .levels) e) h ∙ getD-tabulate EVENTS (levelOf sh) e l
 
   module _ (hb : HeadsBelow sh) where
     -- a pair is found exactly where the sheet has a loop at its place
@@ -64,7 +46,7 @@ module _ (sh : Sheet) (r : Tested) (h : r ≡ tested sh) where
     )
 
     -- and then the levels meet the rule
-    pub levels-say : r .found ≡ Nothing → Levels sh (levelIn r)
+    pub levels-say : r .found ≡ Nothing → Levels sh (byteAt (r .levels))
     levels-say f =
         let lv : Levels sh (levelOf sh) = noloop-levels sh hb (nothing-says .0 f) in
         record {

@@ -1,2 +1,0 @@
--- Tests of two parts, tests and numbers as other numbers, and the conflicting event.
-pub mod Exact

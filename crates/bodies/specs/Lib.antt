@@ -1,2 +1,0 @@
--- The conditions and the body of a trigger.
-pub mod Exact

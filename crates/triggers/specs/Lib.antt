@@ -1,2 +1,0 @@
--- The fields of a trigger, each read from its table.
-pub mod Exact
