@@ -10,7 +10,6 @@ use Prim.Native.Nat.{ℕ, _+_, _*_, _≤_, _<_}
 use lib.Dec.{eqb}
 use lib.ListN.{drop, getD, length, set}
 use lib.Seq.{paste}
-use Rattle.theory.specs.Agreed.{limits}
 use Rattle.theory.specs.Below.{anyBelow, countBelow, one}
 use Rattle.theory.specs.Events.{conf, nonblocked}
 use Rattle.theory.specs.Graph.{Levels, counts, node}
@@ -22,7 +21,6 @@ use Rattle.theory.specs.Laws.Exact.{exact}
 use Rattle.answers.specs.declared.Name.{Name}
 use Rattle.answers.specs.declared.Verdict.{Verdict}
 use Rattle.answers.specs.Answers.{answered, numberOf}
-use Rattle.tables.specs.Agreed.{sizes}
 use Rattle.tables.specs.Asked.{flat, requestAt}
 use Rattle.tables.specs.Buffers.{bit, eventsOf, rolesOf}
 use Rattle.tables.specs.Layout.{TRIGGER-BYTES, byteAt, periodicAt, sheetOf, triggerAt, triggersOf, two}
@@ -124,12 +122,6 @@ parts C x r r′ t t′ roles roles′ w w′ v v′ h h′ =
     let e = x r r′ (lent t roles w v) (lent t′ roles′ w′ v′) h h′ in
     (e .0, ap (λ (l : Lent). l .instant) (e .1), ap (λ (l : Lent). l .roles) (e .1), ap (λ (l : Lent). l .waiting) (e .1), ap (λ (l : Lent). l .events) (e .1))
 
--- ---- theory
-
--- theory::agreed_limits
-pub theory-agreed-limits : Exact (λ r. r ≡ limits)
-theory-agreed-limits r r′ = exact
-
 -- ---- answers
 
 -- answers::number_of
@@ -175,10 +167,6 @@ pub basic-conflict : (e : ℕ) → Exact (λ r. r ≡ conf e)
 basic-conflict e r r′ = exact
 
 -- ---- tables
-
--- tables::agreed_sizes
-pub tables-agreed-sizes : Exact (λ r. r ≡ sizes)
-tables-agreed-sizes r r′ = exact
 
 -- tables::byte
 pub tables-byte : (table : List ℕ) (i : ℕ) → Exact (λ r. r ≡ byteAt table i)

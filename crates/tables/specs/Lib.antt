@@ -2,6 +2,5 @@
 pub mod Layout
 pub mod Buffers
 pub mod Asked
-pub mod Agreed
 pub mod Sample
 pub mod Laws

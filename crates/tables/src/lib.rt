@@ -2,39 +2,9 @@ ghost use mathlib.Core.Path.{_≡_};
 ghost use Prim.Native.Nat.{_+_, _*_, _≤_};
 ghost use lib.ListN.{length};
 ghost use lib.Seq.{paste};
-ghost use Rattle.tables.specs.Agreed.{sizes};
 ghost use Rattle.tables.specs.Layout.{TRIGGER-BYTES, byteAt};
 use basic::index;
 use basic::row_index;
-
-// The lent tables' layout, in bytes (docs/TABLES.md), for whoever lends them.
-pub const PERIODIC_BYTES: usize = 16;
-
-pub const TRIGGER_BYTES: usize = 13;
-
-pub const PERIODIC_TABLE: usize = 2048;
-
-pub const TRIGGER_TABLE: usize = 3328;
-
-// The numbers above in one value, so that their law can be stated.
-pub struct Sizes {
-    pub periodic_bytes: usize,
-    pub trigger_bytes: usize,
-    pub periodic_table: usize,
-    pub trigger_table: usize,
-}
-
-// Code and definitions mean the same numbers.
-pub fn agreed_sizes() -> Sizes
-    ensures { λ r. ⌜ r ≡ sizes ⌝ }
-{
-    Sizes {
-        periodic_bytes: PERIODIC_BYTES,
-        trigger_bytes: TRIGGER_BYTES,
-        periodic_table: PERIODIC_TABLE,
-        trigger_table: TRIGGER_TABLE,
-    }
-}
 
 // The byte at i; 0 past the end.
 pub fn byte(table: &[u8], i: usize) -> u8
