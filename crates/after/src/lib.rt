@@ -5,13 +5,13 @@ ghost use Rattle.theory.specs.Below.{countBelow};
 ghost use Rattle.theory.specs.Events.{nonblocked};
 ghost use Rattle.theory.specs.Instant.{rolesAfter};
 ghost use Rattle.tables.specs.Buffers.{rolesOf, eventsOf};
+ghost use Rattle.masks.specs.Masks.{withRole};
 ghost use Rattle.after.specs.After.{rolesBelow};
 use basic::both;
 use basic::either;
 use basic::one;
 use live::live;
 use roles::role_on;
-use roles::with_role;
 
 // Role r is enabled after the instant: a nonblocked enable adds it, a nonblocked disable removes it, else it is kept.
 fn on_after(roles: u64, events: &[u16], r: u8) -> bool
@@ -21,6 +21,19 @@ fn on_after(roles: u64, events: &[u16], r: u8) -> bool
     let added = live(events, 2 * r + 1);
     let removed = live(events, 2 * r);
     both(either(role_on(roles, r), added), !removed)
+}
+
+// The roles with role r, where `on`.
+fn with_role(roles: u64, r: u8, on: bool) -> u64
+    ensures { λ s. ⌜ s ≡ withRole roles r on ⌝ }
+{
+    if on {
+        if r < 64 {
+            let weight: u64 = 1 << r;
+            return roles | weight;
+        }
+    }
+    roles
 }
 
 // The roles after the instant, whose events the buffer holds.

@@ -8,7 +8,7 @@ use mathlib.Core.Bool.{Bool, _&&_, _||_}
 use mathlib.Core.List.{List}
 use Prim.Native.Nat.{ℕ, _+_, _*_, _≤_, _<_}
 use lib.Dec.{eqb}
-use lib.ListN.{drop, getD, length, set}
+use lib.ListN.{drop, getD, length}
 use lib.Seq.{paste}
 use Rattle.theory.specs.Below.{anyBelow, countBelow, one}
 use Rattle.theory.specs.Events.{conf, nonblocked}
@@ -27,10 +27,11 @@ use Rattle.tables.specs.Layout.{TRIGGER-BYTES, byteAt, periodicAt, sheetOf, tri
 use Rattle.periodics.specs.declared.PeriodicRow.{PeriodicRow}
 use Rattle.periodics.specs.Rows.{periodicOf}
 use Rattle.masks.specs.Joins.{joinedWhere, joins}
-use Rattle.masks.specs.Masks.{joinedAt, withRole}
+use Rattle.masks.specs.Masks.{joinedAt}
 use Rattle.due.specs.Due.{dueAt}
 use Rattle.solver.specs.Solved.{Solved}
-use Rattle.waiting.specs.Waiting.{cleared, copied, placeOf, triggerEntry}
+use Rattle.waiting.specs.Waiting.{cleared, copied, placeOf}
+use Rattle.delays.specs.Delays.{triggerEntry}
 use Rattle.after.specs.After.{rolesBelow}
 use Rattle.rows.specs.Exact.{wholeRows}
 use Rattle.rows.specs.Rows.{Become, Row, RowIs, edgesOf, linked, reaches, whole}
@@ -222,10 +223,6 @@ trigger-limits-trigger-fits table i roles r r′ = exact
 pub masks-number : (buffer : List ℕ) (i : ℕ) → Exact (λ r. r ≡ getD buffer i 0)
 masks-number buffer i r r′ = exact
 
--- masks::has
-pub masks-has : (mask p : ℕ) → Exact (λ r. r ≡ bit mask p)
-masks-has mask p r r′ = exact
-
 -- masks::join
 pub masks-join : (buffer : List ℕ) (at p : ℕ) → Exact (λ buffer′. buffer′ ≡ joinedAt buffer at p)
 masks-join buffer at p l l′ = exact
@@ -233,10 +230,6 @@ masks-join buffer at p l l′ = exact
 -- masks::join_where
 pub masks-join-where : (buffer : List ℕ) (on : Bool) (at p : ℕ) → Exact (λ buffer′. buffer′ ≡ joinedWhere buffer (record { on = on; at = at; priority = p }))
 masks-join-where buffer on at p l l′ = exact
-
--- masks::store
-pub masks-store : (buffer : List ℕ) (at v : ℕ) → Exact (λ buffer′. buffer′ ≡ set buffer at v)
-masks-store buffer at v l l′ = exact
 
 -- ---- live
 
@@ -249,10 +242,6 @@ live-live events e r r′ = exact
 -- roles::role_on
 pub roles-role-on : (roles r : ℕ) → Exact (λ on. on ≡ bit roles r)
 roles-role-on roles r on on′ = exact
-
--- roles::with_role
-pub roles-with-role : (roles r : ℕ) (on : Bool) → Exact (λ s. s ≡ withRole roles r on)
-roles-with-role roles r on s s′ = exact
 
 -- ---- bodies
 
@@ -291,10 +280,12 @@ waiting-copy-row events waiting t l l′ = exact
 pub waiting-clear-row : (waiting : List ℕ) (t : ℕ) → Exact (λ waiting′. waiting′ ≡ cleared waiting t)
 waiting-clear-row waiting t l l′ = exact
 
--- waiting::wait_triggers
-pub waiting-wait-triggers : (waiting events triggers : List ℕ) (n roles t : ℕ)
+-- ---- delays
+
+-- delays::wait_triggers
+pub delays-wait-triggers : (waiting events triggers : List ℕ) (n roles t : ℕ)
     → Exact (λ waiting′. waiting′ ≡ joins waiting n (λ i. triggerEntry (rolesOf roles) (eventsOf events) t (triggerAt triggers i)))
-waiting-wait-triggers waiting events triggers n roles t l l′ = exact
+delays-wait-triggers waiting events triggers n roles t l l′ = exact
 
 -- ---- after
 
@@ -344,9 +335,9 @@ reach-closed edges h r r′ = reach.closed-exact edges r r′ h
 pub edges-nodes : (triggers : List ℕ) (n : ℕ) → Exact (λ r. RowIs (node (triggersOf n triggers)) r)
 edges-nodes triggers n = edges.nodes-exact (triggersOf n triggers)
 
--- edges::drawn
-pub edges-drawn : (given : List Row) (triggers : List ℕ) (n : ℕ) (heads : Row) (negative : Bool) → wholeRows given → Exact (λ r. Become (addedFrom heads (drawsBelow (tailOf negative) (triggersOf n triggers) n)) given r)
-edges-drawn given triggers n heads negative h r r′ = edges.drawn-exact (triggersOf n triggers) n heads negative given r r′ h
+-- edges::draw
+pub edges-draw : (rows : List Row) (triggers : List ℕ) (n : ℕ) (heads : Row) (negative : Bool) → wholeRows rows → Exact (λ rows′. Become (addedFrom heads (drawsBelow (tailOf negative) (triggersOf n triggers) n)) rows rows′)
+edges-draw rows triggers n heads negative h r r′ = edges.draw-exact (triggersOf n triggers) n heads negative rows r r′ h
 
 -- ---- loops
 

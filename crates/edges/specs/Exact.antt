@@ -13,6 +13,6 @@ use Rattle.edges.specs.Drawing.{tailOf, drawsBelow, addedFrom}
 pub nodes-exact : (sh : Sheet) (r r′ : Row) → RowIs (node sh) r → RowIs (node sh) r′ → r ≡ r′
 nodes-exact sh = row-one (node sh)
 
-pub drawn-exact : (sh : Sheet) (n : ℕ) (heads : Row) (negative : Bool) (given r r′ : List Row) → wholeRows given
-    → Become (addedFrom heads (drawsBelow (tailOf negative) sh n)) given r → Become (addedFrom heads (drawsBelow (tailOf negative) sh n)) given r′ → r ≡ r′
-drawn-exact sh n heads negative = become-exact (addedFrom heads (drawsBelow (tailOf negative) sh n))
+pub draw-exact : (sh : Sheet) (n : ℕ) (heads : Row) (negative : Bool) (rows r r′ : List Row) → wholeRows rows
+    → Become (addedFrom heads (drawsBelow (tailOf negative) sh n)) rows r → Become (addedFrom heads (drawsBelow (tailOf negative) sh n)) rows r′ → r ≡ r′
+draw-exact sh n heads negative = become-exact (addedFrom heads (drawsBelow (tailOf negative) sh n))

@@ -52,15 +52,13 @@ fn draw_trigger(rows: &mut Rows, triggers: &[u8], i: u16, heads: &Row, negative:
     }
 }
 
-// The rows with the edges of the first n triggers added that leave an event of `heads`: the − edges, or the + edges.
-pub fn drawn(given: Rows, triggers: &[u8], n: u16, heads: &Row, negative: bool) -> Rows
-    ensures { λ r. ⌜ Become (addedFrom (now (heads .entry)) (drawsBelow (tailOf negative) (triggersOf n (now (triggers .entry))) n)) given r ⌝ }
+// The edges of the first n triggers that leave an event of `heads` join the rows: the − edges, or the + edges.
+pub fn draw(rows: &mut Rows, triggers: &[u8], n: u16, heads: &Row, negative: bool)
+    ensures { λ _. ⌜ Become (addedFrom (now (heads .entry)) (drawsBelow (tailOf negative) (triggersOf n (now (triggers .entry))) n)) (now (rows .entry)) (now (rows .exit)) ⌝ }
 {
-    let mut rows = given;
     let mut i: u16 = 0;
     while i < n {
-        draw_trigger(&mut rows, triggers, i, heads, negative);
+        draw_trigger(rows, triggers, i, heads, negative);
         i += 1;
     }
-    rows
 }

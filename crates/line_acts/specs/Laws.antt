@@ -1,20 +1,27 @@
--- Laws of what a frame does: its row lies in its table, and it is one line more.
+-- Laws of what a frame does: its row is put into its table, and it is one line more.
 -- Assumes nothing.
-use mathlib.Core.Path.{_≡_}
+use mathlib.Core.Path.{_≡_, refl}
 use mathlib.Core.Logic.{⊎-elim}
 use mathlib.Core.Bool.{true, false}
 use mathlib.Core.List.{List}
-use Prim.Native.Nat.{ℕ, _+_, _*_, _≤_, _<_}
+use Prim.Native.Nat.{ℕ, _+_, _*_}
 use lib.Dec.{eqb}
 use lib.ListN.{length}
+use lib.Seq.{paste}
+use borrow.Author.Tests.{eq-eqb, ne-eqb}
 use Rattle.theory.specs.Laws.Tests.{test}
 use Rattle.kinds.specs.Kinds.{HEADER, PERIODIC, TRIGGER}
 use Rattle.line_tests.specs.declared.Seen.{Seen}
-use Rattle.line_acts.specs.Acts.{seenAfter}
+use Rattle.line_acts.specs.Acts.{seenAfter, tableAfter}
 
--- row p of m rows of w bytes
-pub row-fits : (w m : ℕ) (row : List ℕ) (p : ℕ) → length row ≡ w → (p < m → w * p + w ≤ w * m) → p < m → length row * p + length row ≤ w * m
-row-fits w m row p e f h = rw e (f h)
+-- a table after a frame of its kind w, whose row of so many bytes is put at row n, and after any other frame
+pub table-put : (k w n at size : ℕ) (row row′ table : List ℕ) → k ≡ w → row ≡ row′ → length row′ ≡ size → at ≡ size * n → paste table at row (length row) ≡ tableAfter k w n row′ table
+unfolding tableAfter
+table-put k w n at size row row′ table e p z h = rw (eq-eqb k w e, p, h, z) refl
+
+pub table-kept : (k w n : ℕ) (row table : List ℕ) → ¬ (k ≡ w) → table ≡ tableAfter k w n row table
+unfolding tableAfter
+table-kept k w n row table e = rw (ne-eqb k w e) refl
 
 -- a line that goes on is one line more
 pub seen-line : (k r : ℕ) (s : Seen) → seenAfter k r s .line ≡ s .line + 1

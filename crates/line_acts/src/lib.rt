@@ -1,6 +1,6 @@
 ghost use mathlib.Core.Path.{_≡_};
 ghost use mathlib.Core.Bool.{true};
-ghost use Prim.Native.Nat.{_+_, _*_, _≤_, _<_};
+ghost use Prim.Native.Nat.{_<_};
 ghost use lib.ListN.{length};
 ghost use Rattle.frames.specs.Frame.{bytesOf};
 ghost use Rattle.tables.specs.Layout.{PERIODIC-TABLE, TRIGGER-TABLE};
@@ -54,32 +54,26 @@ fn seen_after(k: u8, roles: u8, s: Seen) -> Seen
     }
 }
 
-// A table's row n, if the frame is of the table's kind.
-fn put_row(k: u8, w: u8, n: usize, row: &[u8], table: &mut [u8])
-    requires { ⌜ (k ≡ w → length (now row) * n + length (now row) ≤ length (now table)) × (length (now table) < 4000) ⌝ }
-    ensures { λ _. ⌜ now (table .exit) ≡ tableAfter k w n (now (row .entry)) (now (table .entry)) ⌝ }
-{
-    if k == w {
-        tables::copy_in(table, row.len() * n, row);
-    }
-}
-
-// The row of a periodic frame into its table.
+// The row of a periodic frame becomes row n of its table. Other frames have none.
 fn put_periodic(line: &[u8], k: u8, n: u16, table: &mut [u8])
     requires { ⌜ (k ≡ PERIODIC → n < 128) × (length (now table) ≡ PERIODIC-TABLE) ⌝ }
     ensures { λ _. ⌜ now (table .exit) ≡ tableAfter k PERIODIC n (periodicRow (bytesOf (now (line .entry)))) (now (table .entry)) ⌝ }
 {
-    let row = periodic_frames::periodic_row(line);
-    put_row(k, 32, basic::row_index(n), &row, table);
+    if k == 32 {
+        let row = periodic_frames::periodic_row(line);
+        tables::copy_in(table, 16 * basic::row_index(n), &row);
+    }
 }
 
-// The row of a trigger frame into its table.
+// The row of a trigger frame becomes row n of its table. Other frames have none.
 fn put_trigger(line: &[u8], k: u8, n: u16, table: &mut [u8])
     requires { ⌜ (k ≡ TRIGGER → n < 256) × (length (now table) ≡ TRIGGER-TABLE) ⌝ }
     ensures { λ _. ⌜ now (table .exit) ≡ tableAfter k TRIGGER n (triggerRow (bytesOf (now (line .entry)))) (now (table .entry)) ⌝ }
 {
-    let row = trigger_frames::trigger_row(line);
-    put_row(k, 48, basic::row_index(n), &row, table);
+    if k == 48 {
+        let row = trigger_frames::trigger_row(line);
+        tables::copy_in(table, 13 * basic::row_index(n), &row);
+    }
 }
 
 // What a frame that passed does: what was read so far goes on, and a row joins its table. (For `lines` alone, which has shown that the frame passed, so that there is room.)

@@ -87,9 +87,10 @@ pub fn loop_test(triggers: &[u8], n: u16) -> Tested
     ensures { λ r. ⌜ r ≡ tested (triggersOf n (now (triggers .entry))) ⌝ }
 {
     let heads = edges::nodes(triggers, n);
-    let none = [[false; 128]; 128];
-    let minus = edges::drawn(none, triggers, n, &heads, true);
-    let drawn = edges::drawn(minus, triggers, n, &heads, false);
+    let mut minus = [[false; 128]; 128];
+    edges::draw(&mut minus, triggers, n, &heads, true);
+    let mut drawn = minus;
+    edges::draw(&mut drawn, triggers, n, &heads, false);
     let reach = reach::closed(drawn);
     let found = first_cycle(&minus, &reach);
     let levels = levels(&reach);

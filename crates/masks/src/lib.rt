@@ -1,6 +1,5 @@
 ghost use mathlib.Core.Path.{_≡_};
-ghost use lib.ListN.{getD, set};
-ghost use Rattle.tables.specs.Buffers.{bit};
+ghost use lib.ListN.{getD};
 ghost use Rattle.masks.specs.Masks.{withPriority, joinedAt};
 ghost use Rattle.masks.specs.Joins.{joinedWhere};
 
@@ -12,16 +11,6 @@ pub fn number(buffer: &[u16], i: usize) -> u16
         return buffer[i];
     }
     0
-}
-
-// The priority p is in the mask.
-pub fn has(mask: u16, p: u8) -> bool
-    ensures { λ r. ⌜ r ≡ bit mask p ⌝ }
-{
-    if p < 16 {
-        return (mask >> p) % 2 == 1;
-    }
-    false
 }
 
 // The mask with the priority p.
@@ -50,14 +39,5 @@ pub fn join_where(buffer: &mut [u16], on: bool, at: usize, p: u8)
 {
     if on {
         join(buffer, at, p);
-    }
-}
-
-// The buffer's number `at` becomes v; past the end nothing is written.
-pub fn store(buffer: &mut [u16], at: usize, v: u16)
-    ensures { λ _. ⌜ now (buffer .exit) ≡ set (now (buffer .entry)) at v ⌝ }
-{
-    if at < buffer.len() {
-        buffer[at] = v;
     }
 }

@@ -10,7 +10,8 @@ use Rattle.tables.specs.Buffers.{rolesOf, eventsOf}
 use Rattle.tables.specs.Asked.{Asked}
 use Rattle.masks.specs.Joins.{joins}
 use Rattle.due.specs.Due.{dueAt}
-use Rattle.waiting.specs.Waiting.{copied, cleared, triggerEntry}
+use Rattle.waiting.specs.Waiting.{copied, cleared}
+use Rattle.delays.specs.Delays.{triggerEntry}
 use Rattle.after.specs.After.{rolesBelow}
 use Rattle.asked.specs.Adds.{givenEntry, waitEntry}
 use Rattle.solver.specs.Solved.{Solved}

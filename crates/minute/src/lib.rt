@@ -29,7 +29,7 @@ fn refill(
 {
     waiting::clear_row(waiting, t);
     asked::wait_asked(waiting, asked, m, t);
-    waiting::wait_triggers(waiting, events, triggers, n, roles, t);
+    delays::wait_triggers(waiting, events, triggers, n, roles, t);
 }
 
 // The instant's own work, once nothing is refused: the givens, the solution, what waits, the roles after, the next instant. (For the step alone, which has shown that an

@@ -4,18 +4,27 @@ ghost use Prim.Native.Nat.{ℕ};
 ghost use lib.ListN.{length};
 ghost use Rattle.theory.specs.Numbers.{EVENTS};
 ghost use Rattle.theory.specs.Laws.Stage.{Turn};
-ghost use Rattle.tables.specs.Buffers.{eventsOf};
+ghost use Rattle.tables.specs.Buffers.{bit, eventsOf};
 ghost use Rattle.keys.specs.Keys.{Chained, Linked};
 ghost use Rattle.turns.specs.Turns.{Keyed, TurnAt, WalkedAt, SettledAt};
 use basic::index;
 use basic::row_index;
 use bodies::met;
-use masks::has;
 use masks::join;
 use masks::number;
 use tables::HEAD;
 use tables::PRIORITY;
 use tables::trigger_byte;
+
+// The priority p is in the mask.
+fn has(mask: u16, p: u8) -> bool
+    ensures { λ r. ⌜ r ≡ bit mask p ⌝ }
+{
+    if p < 16 {
+        return (mask >> p) % 2 == 1;
+    }
+    false
+}
 
 // p:e joins the events; whether it was not there. What is no prioritized event joins nothing.
 fn put(events: &mut [u16], e: u8, p: u8) -> bool

@@ -1,4 +1,4 @@
--- What the rows hold once they are copied or cleared, and what joins them.
+-- What the rows hold once they are copied or cleared.
 -- Assumes nothing.
 use mathlib.Core.Path.{_≡_, refl, sym, ap, _∙_}
 use mathlib.Core.Logic.{⊎-elim, by-cases}
@@ -11,16 +11,12 @@ use lib.Dec.{ltb, eqb}
 use lib.ListN.{length, getD}
 use borrow.Author.Tests.{eqb-true, eqb-false, lt-ltb, le-ltb}
 use Rattle.theory.specs.Numbers.{EVENTS, WAITING-NUMBERS}
-use Rattle.theory.specs.Events.{Events, Roles}
-use Rattle.theory.specs.Sheet.{Trigger}
-use Rattle.theory.specs.Instant.{allows, met}
 use Rattle.theory.specs.Box.{row}
 use Rattle.theory.specs.Laws.Tests.{test}
 use Rattle.tables.specs.Buffers.{bit, eventsOf, waitingOf}
-use Rattle.masks.specs.Joins.{Entry}
 use Rattle.masks.specs.Laws.Bits.{bit-none}
 use Rattle.masks.specs.Laws.Joins.{writes-in, writes-out}
-use Rattle.waiting.specs.Waiting.{placeOf, copied, cleared, triggerEntry}
+use Rattle.waiting.specs.Waiting.{placeOf, copied, cleared}
 
 -- the events buffer holds what waits for t
 pub copied-is : (l w : List ℕ) (t : ℕ) → length l ≡ EVENTS → (e p : ℕ) → eventsOf (copied l w t) e p ≡ waitingOf w (row t) e p
@@ -46,16 +42,3 @@ cleared-is w t h k e p =
     rw (s, lt-ltb e EVENTS l) (ap (λ (m : ℕ). bit m p) (writes-out w (EVENTS * row t) EVENTS (λ i. 0) (EVENTS * k + e) (λ j m q. z (omega arith)))))
     (test (eqb k (row t))))
     (λ (l : ¬ (e < EVENTS)). rw (le-ltb e EVENTS (omega arith)) (sym (and-false (not (eqb k (row t))))))
-
--- a trigger's entry, made of what the code read
-pub trigger-entry : (ST : Roles) (S : Events) (t : ℕ) (g : Trigger) (on : Bool) (at d e p : ℕ)
-    → on ≡ (ltb 0 (g .delay) && (allows ST g && met S S g)) → at ≡ placeOf (t + d) e → d ≡ g .delay → e ≡ g .head → p ≡ g .priority
-    → _≡_ {A = Entry} (record { on = on; at = at; priority = p }) (triggerEntry ST S t g)
-trigger-entry ST S t g on at d e p o a h k m = rw (o, a, h, k, m) refl
-
--- whether a trigger has a delay
-pub delay-none : (d x : ℕ) → d ≡ x → d ≡ 0 → ltb 0 x ≡ false
-delay-none d x e h = le-ltb 0 x (omega arith)
-
-pub delay-some : (d x : ℕ) → d ≡ x → ¬ (d ≡ 0) → ltb 0 x ≡ true
-delay-some d x e h = lt-ltb 0 x (omega arith)

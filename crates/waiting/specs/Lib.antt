@@ -1,3 +1,3 @@
--- The waiting buffer: its rows, and what comes to wait.
+-- The waiting buffer and its rows.
 pub mod Waiting
 pub mod Laws

@@ -1,22 +1,20 @@
 ghost use mathlib.Core.Path.{_≡_};
-ghost use mathlib.Core.Bool.{_&&_};
 ghost use Prim.Native.Nat.{_+_};
-ghost use lib.Dec.{ltb};
-ghost use Rattle.theory.specs.Instant.{allows, met};
-ghost use Rattle.tables.specs.Layout.{triggerAt};
-ghost use Rattle.tables.specs.Buffers.{rolesOf, eventsOf};
-ghost use Rattle.masks.specs.Joins.{joins};
-ghost use Rattle.waiting.specs.Waiting.{placeOf, copied, cleared, triggerEntry};
+ghost use lib.ListN.{set};
+ghost use Rattle.waiting.specs.Waiting.{placeOf, copied, cleared};
 use basic::index;
 use basic::long;
 use basic::wide;
-use masks::join_where;
 use masks::number;
-use masks::store;
-use tables::DELAY;
-use tables::HEAD;
-use tables::PRIORITY;
-use tables::trigger_byte;
+
+// The buffer's number `at` becomes v; past the end nothing is written.
+fn store(buffer: &mut [u16], at: usize, v: u16)
+    ensures { λ _. ⌜ now (buffer .exit) ≡ set (now (buffer .entry)) at v ⌝ }
+{
+    if at < buffer.len() {
+        buffer[at] = v;
+    }
+}
 
 // Where event e stands in the row of d instants after t.
 pub fn place(t: u32, d: u8, e: u8) -> usize
@@ -42,40 +40,5 @@ pub fn clear_row(waiting: &mut [u16], t: u32)
 {
     for e in 0..128 {
         store(waiting, place(t, 0, e), 0);
-    }
-}
-
-// The head of trigger i comes to wait: it has a delay, its conditions hold and its body is met.
-fn comes_to_wait(events: &[u16], triggers: &[u8], i: u16, roles: u64) -> bool
-    ensures { λ r. ⌜ r ≡ (ltb 0 (triggerAt (now (triggers .entry)) i .delay) && (allows (rolesOf roles) (triggerAt (now (triggers .entry)) i) && met (eventsOf (now (events .entry))) (eventsOf (now (events .entry))) (triggerAt (now (triggers .entry)) i))) ⌝ }
-{
-    if trigger_byte(triggers, i, DELAY) == 0 {
-        return false;
-    }
-    if !bodies::allows(triggers, i, roles) {
-        return false;
-    }
-    bodies::met(events, triggers, i)
-}
-
-// The heads of the first n triggers that come to wait join the waiting buffer.
-pub fn wait_triggers(
-    waiting: &mut [u16],
-    events: &[u16],
-    triggers: &[u8],
-    n: u16,
-    roles: u64,
-    t: u32,
-)
-    ensures { λ _. ⌜ now (waiting .exit) ≡ joins (now (waiting .entry)) n (λ i. triggerEntry (rolesOf roles) (eventsOf (now (events .entry))) t (triggerAt (now (triggers .entry)) i)) ⌝ }
-{
-    let mut i: u16 = 0;
-    while i < n {
-        let on = comes_to_wait(events, triggers, i, roles);
-        let delay = trigger_byte(triggers, i, DELAY);
-        let head = trigger_byte(triggers, i, HEAD);
-        let at = place(t, delay, head);
-        join_where(waiting, on, at, trigger_byte(triggers, i, PRIORITY));
-        i += 1;
     }
 }

@@ -8,11 +8,11 @@ use Rattle.loops.proofs.loop_test.Tie as tie
 nodes-requires : tie.Need-nodes-requires
 nodes-requires c κs = search needs
 
-drawn-requires : tie.Need-drawn-requires
-drawn-requires c κs = search needs
+draw-requires : tie.Need-draw-requires
+draw-requires c κs = search needs
 
-drawn-requires-2 : tie.Need-drawn-requires-2
-drawn-requires-2 c κs = search needs
+draw-requires-2 : tie.Need-draw-requires-2
+draw-requires-2 c κs = search needs
 
 closed-requires : tie.Need-closed-requires
 closed-requires c κs = search needs
@@ -24,22 +24,21 @@ levels-requires : tie.Need-levels-requires
 levels-requires c κs = search needs
 
 returns : tie.Need-returns
-returns c =
-    let f = c .before .before in
+returns c = let f = c .before .before in
     let r = f .before .before .before in
     let e = r .before in
-    let m = e .before .before in
-    let h = m .before .before in
+    let m = e .before .before .before in
+    let h = m .before .before .before in
     let a = h .before .before .args in
-    tested-is (a .n) _ _ _ _ _ (h .nodes .ensures) (m .drawn .ensures) (e .drawn2 .ensures) (r .closed .ensures) _ _ (f .first-cycle .ensures) (c .levels .ensures)
+    tested-is (a .n) _ _ _ _ _ (h .nodes .ensures) (m .draw .ensures) (e .draw2 .ensures) (r .closed .ensures) _ _ (f .first-cycle .ensures) (c .levels .ensures)
 
 pub loop-test-spec : {M : Type 1} → statement M
 loop-test-spec =
     tie.close
     (tie.spec
     nodes-requires
-    drawn-requires
-    drawn-requires-2
+    draw-requires
+    draw-requires-2
     closed-requires
     first-cycle-requires
     levels-requires

@@ -28,7 +28,8 @@ use Rattle.masks.specs.Joins.{joins}
 use Rattle.masks.specs.Laws.Joins.{writes-size}
 use Rattle.masks.specs.Laws.Fill.{joins-size, joins-events, joins-waiting}
 use Rattle.due.specs.Due.{dueAt}
-use Rattle.waiting.specs.Waiting.{copied, cleared, triggerEntry}
+use Rattle.waiting.specs.Waiting.{copied, cleared}
+use Rattle.delays.specs.Delays.{triggerEntry}
 use Rattle.waiting.specs.Laws.{copied-is, cleared-is}
 use Rattle.row_judge.specs.Judge.{Rules, sheetIn}
 use Rattle.requests.specs.Requests.{AllFit}

@@ -1,4 +1,4 @@
--- `waiting::wait_triggers` meets its contract. The loop's invariant: the entries of the first i triggers have joined.
+-- `delays::wait_triggers` meets its contract. The loop's invariant: the entries of the first i triggers have joined.
 -- Assumes nothing.
 use mathlib.Core.Path.{_≡_, refl, _∙_}
 use Prim.Native.Nat.{_-_, _≤_}
@@ -8,11 +8,11 @@ use Rattle.tables.specs.Laws.{head-byte, priority-byte, delay-byte}
 use Rattle.tables.specs.Buffers.{rolesOf, eventsOf}
 use Rattle.masks.specs.Joins.{joins}
 use Rattle.masks.specs.Laws.Joins.{joins-none, joins-next, joins-end}
-use Rattle.waiting.specs.Waiting.{triggerEntry}
-use Rattle.waiting.specs.Laws.{trigger-entry}
+use Rattle.delays.specs.Delays.{triggerEntry}
+use Rattle.delays.specs.Laws.{trigger-entry}
 use borrow.Author.Needs.{needs}
-use Rattle.waiting.proofs.wait_triggers.Statement.{statement}
-use Rattle.waiting.proofs.wait_triggers.Tie as tie
+use Rattle.delays.proofs.wait_triggers.Statement.{statement}
+use Rattle.delays.proofs.wait_triggers.Tie as tie
 
 abbrev Inv-loop : tie.InvT-loop
 Inv-loop waiting₀ events triggers n roles t i₀ waiting i = (i ≤ n) × (length waiting ≡ length waiting₀) × (waiting ≡ joins waiting₀ i (λ k. triggerEntry (rolesOf roles) (eventsOf events) t (triggerAt triggers k)))

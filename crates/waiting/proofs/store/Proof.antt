@@ -1,11 +1,11 @@
--- `masks::store` meets its contract: past the end a list's number is not set either.
+-- `waiting::store` meets its contract: past the end a list's number is not set either.
 -- Assumes nothing.
 use mathlib.Core.Path.{sym}
 use native.Mathlib.Omega.{arith}
 use lib.Seq.{set-out}
 use borrow.Author.Needs.{needs}
-use Rattle.masks.proofs.store.Statement.{statement}
-use Rattle.masks.proofs.store.Tie as tie
+use Rattle.waiting.proofs.store.Statement.{statement}
+use Rattle.waiting.proofs.store.Tie as tie
 
 mul-buffer : tie.Need-mul-buffer
 mul-buffer c = search needs

@@ -1,12 +1,12 @@
--- `masks::has` meets its contract: a mask of 16 bits has no weight from 16 on.
+-- `turns::has` meets its contract: a mask of 16 bits has no weight from 16 on.
 -- Assumes nothing.
 use mathlib.Core.Path.{refl, sym}
 use Rattle.tables.specs.Buffers.{bit}
 use Rattle.masks.specs.Laws.Bits.{bit-high}
 use borrow.Author.Needs.{needs}
 use native.Mathlib.Omega.{arith}
-use Rattle.masks.proofs.has.Statement.{statement}
-use Rattle.masks.proofs.has.Tie as tie
+use Rattle.turns.proofs.has.Statement.{statement}
+use Rattle.turns.proofs.has.Tie as tie
 
 shr-result : tie.Need-shr-result
 shr-result c = search needs

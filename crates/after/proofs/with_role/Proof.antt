@@ -1,12 +1,12 @@
--- `roles::with_role` meets its contract: a shift of 1 by a role keeps its weight in 64 bits.
+-- `after::with_role` meets its contract: a shift of 1 by a role keeps its weight in 64 bits.
 -- Assumes nothing.
 use mathlib.Core.Path.{refl}
 use borrow.Author.Tests.{lt-ltb, le-ltb}
 use Rattle.masks.specs.Masks.{withRole}
 use Rattle.masks.specs.Laws.Bits.{shl-one}
 use borrow.Author.Needs.{needs}
-use Rattle.roles.proofs.with_role.Statement.{statement}
-use Rattle.roles.proofs.with_role.Tie as tie
+use Rattle.after.proofs.with_role.Statement.{statement}
+use Rattle.after.proofs.with_role.Tie as tie
 
 shl-weight : tie.Need-shl-weight
 shl-weight c = search needs

@@ -1,12 +1,12 @@
--- `waiting::comes_to_wait` meets its contract: the definition's tests in their order, each asked where those before it pass.
+-- `delays::comes_to_wait` meets its contract: the definition's tests in their order, each asked where those before it pass.
 -- Assumes nothing.
 use mathlib.Core.Path.{refl, sym, _∙_}
 use borrow.Author.Tests.{not-true, not-false}
 use Rattle.tables.specs.Laws.{delay-byte}
-use Rattle.waiting.specs.Laws.{delay-none, delay-some}
+use Rattle.delays.specs.Laws.{delay-none, delay-some}
 use borrow.Author.Needs.{needs}
-use Rattle.waiting.proofs.comes_to_wait.Statement.{statement}
-use Rattle.waiting.proofs.comes_to_wait.Tie as tie
+use Rattle.delays.proofs.comes_to_wait.Statement.{statement}
+use Rattle.delays.proofs.comes_to_wait.Tie as tie
 
 trigger-byte-requires : tie.Need-trigger-byte-requires
 trigger-byte-requires c κs = search needs

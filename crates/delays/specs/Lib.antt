@@ -1,0 +1,3 @@
+-- What triggers with a delay let wait.
+pub mod Delays
+pub mod Laws
