@@ -22,13 +22,13 @@ use Rattle.answers.specs.declared.Verdict.the-variants.{Pass}
 use Rattle.text.specs.Lines.{lines}
 use Rattle.tables.specs.Layout.{PERIODIC-TABLE, TRIGGER-TABLE, sheetOf}
 use Rattle.walks.specs.Walks.{Going, goes, refused}
-use Rattle.line_acts.specs.Acts.{State}
+use Rattle.line_acts.specs.Acts.{Progress}
 use Rattle.lines.specs.Lines.{reads}
 use Rattle.readings.specs.declared.Read.{Read}
 use Rattle.readings.specs.declared.Reading.the-variants.{Good, Bad}
 use Rattle.row_judge.specs.Judge.{judgeTables}
 use Rattle.judge.specs.Laws.{judge-refuses-not}
-use Rattle.hand_out.specs.Out.{Outcome, outcome, sheetRead, handed, byLoop, afterLines}
+use Rattle.hand_out.specs.Out.{ReadOutcome, readOutcome, sheetRead, handed, byLoop, afterLines}
 use Rattle.hand_out.specs.Exact.{outcome-one}
 use Rattle.sheet.specs.Sheet.{start, byLines, lengthsFit, reading}
 use Rattle.accepted.specs.Laws.SoFar.{SoFar}
@@ -48,48 +48,48 @@ no-loop sh g h =
 
 module _ (p t : List ℕ) (r : Read) (p′ t′ : List ℕ) where
   -- what comes back of an accepted sheet
-  abbrev accepted : Outcome
-  accepted = outcome (Good r) p′ t′
+  abbrev accepted : ReadOutcome
+  accepted = readOutcome (Good r) p′ t′
 
   -- a refusal is no acceptance
-  not-bad : {C : Type 0} (x : Refusal) → outcome (Bad x) p t ≡ accepted → C
+  not-bad : {C : Type 0} (x : Refusal) → readOutcome (Bad x) p t ≡ accepted → C
   not-bad x e = let q : Bad x ≡ Good r = outcome-one (Bad x) (Good r) p p′ t t′ e .0 in absurd (let w : _≡_ {A = ℕ} 0 1 = cc in omega arith)
 
   -- where a test that must hold does not, there is a refusal
-  cond-accepted : (b : Bool) (o : Outcome) (x : Refusal) → cond b o (outcome (Bad x) p t) ≡ accepted → o ≡ accepted
+  cond-accepted : (b : Bool) (o : ReadOutcome) (x : Refusal) → cond b o (readOutcome (Bad x) p t) ≡ accepted → o ≡ accepted
   cond-accepted true o x e = e
   cond-accepted false o x e = not-bad x e
 
   -- the lines went on to their end, LOOP was not found, and what was read is what is handed out
-  record From (s : State) : Type 0 where
+  record From (s : Progress) : Type 0 where
     loopless : PAIRS ≤ loopPlace (sheetRead s)
     is-read : handed (s .seen) ≡ r
-    is-periodic : s .periodic ≡ p′
+    is-periodic : s .periodics ≡ p′
     is-triggers : s .triggers ≡ t′
 
-  by-loop : (s : State) → afterLines s p t ≡ accepted → From s
+  by-loop : (s : Progress) → afterLines s p t ≡ accepted → From s
   unfolding byLoop
   by-loop s e =
       let k : ℕ = loopPlace (sheetRead s) in
       ⊎-elim
       (λ (b : ltb k PAIRS ≡ true). not-bad _ (rw b at e))
       (λ (b : ltb k PAIRS ≡ false).
-      let q = outcome-one (Good (handed (s .seen))) (Good r) (s .periodic) p′ (s .triggers) t′ (rw b at e) in
+      let q = outcome-one (Good (handed (s .seen))) (Good r) (s .periodics) p′ (s .triggers) t′ (rw b at e) in
       let g : Good (handed (s .seen)) ≡ Good r = q .0 in
       record { loopless = ltb-false k PAIRS b; is-read = cc; is-periodic = q .1; is-triggers = q .2 })
       (test (ltb k PAIRS))
 
-  by-reads : (x : Going State) → byLines x p t ≡ accepted → (s : State) × (x ≡ goes s) × From s
+  by-reads : (x : Going Progress) → byLines x p t ≡ accepted → (s : Progress) × (x ≡ goes s) × From s
   unfolding byLines
   by-reads (goes s) e = (s, refl, by-loop s e)
   by-reads (refused x) e = not-bad x e
 
-module _ (sheet p t : List ℕ) (r : Read) (p′ t′ : List ℕ) (e : reading sheet p t ≡ outcome (Good r) p′ t′) where
+module _ (sheet p t : List ℕ) (r : Read) (p′ t′ : List ℕ) (e : reading sheet p t ≡ readOutcome (Good r) p′ t′) where
   -- the sheet that is handed out
   abbrev sh : Sheet
   sh = sheetOf (r .roles) (r .periodics) (r .triggers) p′ t′
 
-  went : (s : State) × (reads (goes start) (lines sheet) ≡ goes s) × From p t r p′ t′ s
+  went : (s : Progress) × (reads (goes start) (lines sheet) ≡ goes s) × From p t r p′ t′ s
   unfolding reading
   went = by-reads p t r p′ t′ (reads (goes start) (lines sheet)) (cond-accepted p t r p′ t′ (lengthsFit (length sheet) (length p) (length t)) _ _ e)
 

@@ -2,7 +2,7 @@
 -- Assumes nothing.
 use mathlib.Core.Path.{_≡_, refl, sym, ap, _∙_}
 use mathlib.Core.Logic.{by-cases}
-use mathlib.Core.Bool.{Bool, _&&_, _||_, and-true, and-false, or-false}
+use mathlib.Core.Bool.{Bool, true, false, _&&_, _||_, and-true, and-false, or-false}
 use mathlib.Core.List.{List}
 use Prim.Native.Nat.{ℕ, zero, suc, _+_, _^_, _≤_, _<_}
 use native.Mathlib.Decide.{decLt}
@@ -14,13 +14,18 @@ use Rattle.theory.specs.Numbers.{ROLES}
 use Rattle.theory.specs.Events.{Events, Roles, enable}
 use Rattle.theory.specs.Instant.{rolesAfter}
 use Rattle.tables.specs.Buffers.{bit, rolesOf, eventsOf}
-use Rattle.masks.specs.Masks.{withRole}
 use Rattle.masks.specs.Laws.Bits.{bit-none, bit-high}
-use Rattle.masks.specs.Laws.Joined.{role-joined}
+use Rattle.masks.specs.Laws.Joined.{bit-joined}
 use Rattle.masks.specs.Laws.Live.{live-none}
-use Rattle.after.specs.After.{rolesBelow}
+use Rattle.after.specs.After.{withRole, rolesBelow}
 
 -- ---- role after role
+
+-- the roles, and r where `on`
+role-joined : (roles r k : ℕ) (on : Bool) → r < ROLES → bit (withRole roles r on) k ≡ (bit roles k || (on && eqb r k))
+unfolding withRole
+role-joined roles r k true h = rw (lt-ltb r ROLES h) (bit-joined roles r k)
+role-joined roles r k false h = sym (or-false (bit roles k))
 
 pub roles-none : (ST : Roles) (S : Events) → 0 ≡ rolesBelow ST S 0
 unfolding rolesBelow

@@ -2,10 +2,10 @@ ghost use mathlib.Core.Path.{_≡_};
 ghost use Rattle.tables.specs.Asked.{requestAt};
 ghost use Rattle.masks.specs.Joins.{joins};
 ghost use Rattle.asked.specs.Adds.{givenEntry, waitEntry};
-use basic::index;
 use masks::join_where;
 use requests::request_at;
 use waiting::place;
+use widths::index;
 
 // Of the first n requests those with delay 0 join the events buffer.
 pub fn add_asked(events: &mut [u16], asked: &[u8], n: u16)

@@ -24,34 +24,6 @@ pub fn either(a: bool, b: bool) -> bool
     b
 }
 
-// A byte as a number of 32 bits.
-pub fn wide(x: u8) -> u32
-    ensures { λ r. ⌜ r ≡ x ⌝ }
-{
-    x as u32
-}
-
-// A byte as an index.
-pub fn index(x: u8) -> usize
-    ensures { λ r. ⌜ r ≡ x ⌝ }
-{
-    x as usize
-}
-
-// A row's number as an index.
-pub fn row_index(row: u16) -> usize
-    ensures { λ r. ⌜ r ≡ row ⌝ }
-{
-    row as usize
-}
-
-// A number of 32 bits as one of 64.
-pub fn long(x: u32) -> u64
-    ensures { λ r. ⌜ r ≡ x ⌝ }
-{
-    x as u64
-}
-
 // 1 for a test that passes, else 0.
 pub fn one(t: bool) -> u8
     ensures { λ r. ⌜ (r ≡ one t) × (r < 2) ⌝ }

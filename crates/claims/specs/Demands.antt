@@ -29,9 +29,8 @@ use Rattle.tables.specs.Buffers.{eventsOf, Narrow}
 use Rattle.tables.specs.Asked.{Asked}
 use Rattle.readings.specs.declared.Read.{Read}
 use Rattle.readings.specs.declared.Reading.the-variants.{Good, Bad}
-use Rattle.line_acts.specs.Acts.{State}
-use Rattle.hand_out.specs.Out.{outcome, sheetRead, handed}
-use Rattle.hand_out.specs.Out as reader
+use Rattle.line_acts.specs.Acts.{Progress}
+use Rattle.hand_out.specs.Out.{ReadOutcome, readOutcome, sheetRead, handed}
 use Rattle.sheet.specs.Sheet.{reading}
 use Rattle.row_judge.specs.Judge.{Rules, sheetIn}
 use Rattle.requests.specs.Requests.{AllFit}
@@ -65,11 +64,11 @@ pub no-other : (name : Name) → (1 ≤ numberOf name) × (numberOf name ≤ 10)
 no-other = Numbers.no-other
 
 -- Any bytes as a sheet, with any two lent tables, have exactly one outcome: an answer, and what the tables hold then.
-pub reader-total : (sheet p t : List ℕ) → ExactlyOne (λ (o : reader.Outcome). o ≡ reading sheet p t)
+pub reader-total : (sheet p t : List ℕ) → ExactlyOne (λ (o : ReadOutcome). o ≡ reading sheet p t)
 reader-total sheet p t = (reading sheet p t, refl, λ o e. e)
 
 -- After a refusal the tables are as they came.
-pub reader-keeps : (sheet p t : List ℕ) (r : Refusal) → reading sheet p t .answer ≡ Bad r → reading sheet p t ≡ outcome (Bad r) p t
+pub reader-keeps : (sheet p t : List ℕ) (r : Refusal) → reading sheet p t .answer ≡ Bad r → reading sheet p t ≡ readOutcome (Bad r) p t
 reader-keeps = Reader.reader-keeps
 
 -- Any lent tables and counts, any requests, any instant, roles of 64 bits and buffers of 16-bit numbers, of whatever lengths, have exactly one outcome: an answer, and what is lent then.
@@ -95,16 +94,16 @@ loop-or-none sh good =
     (Loop.loop-or sh (OneSolution.good-heads sh good))
 
 -- Bytes that read in good order to their end are such a sheet.
-pub reader-order : (sheet p t : List ℕ) (s : State) → ReadsInOrder sheet p t s → GoodOrder (sheetRead s)
+pub reader-order : (sheet p t : List ℕ) (s : Progress) → ReadsInOrder sheet p t s → GoodOrder (sheetRead s)
 reader-order = Reader.reader-order
 
 -- The reader refuses bytes with LOOP at k exactly when they read in good order and their loop is at k,
-pub reader-loops : (sheet p t : List ℕ) (k : ℕ) → (reading sheet p t ≡ outcome (Bad (record { name = LOOP; place = k })) p t) ↔ ((s : State) × ReadsInOrder sheet p t s × LoopAt (sheetRead s) k)
+pub reader-loops : (sheet p t : List ℕ) (k : ℕ) → (reading sheet p t ≡ readOutcome (Bad (record { name = LOOP; place = k })) p t) ↔ ((s : Progress) × ReadsInOrder sheet p t s × LoopAt (sheetRead s) k)
 reader-loops = Reader.reader-loops
 
 -- and accepts them exactly when they read in good order and have none; then it hands out what was read.
-pub reader-accepts : (sheet p t : List ℕ) (r : Read) (p′ t′ : List ℕ) → (reading sheet p t ≡ outcome (Good r) p′ t′)
-    ↔ ((s : State) × ReadsInOrder sheet p t s × NoLoop (sheetRead s) × (outcome (Good (handed (s .seen))) (s .periodic) (s .triggers) ≡ outcome (Good r) p′ t′))
+pub reader-accepts : (sheet p t : List ℕ) (r : Read) (p′ t′ : List ℕ) → (reading sheet p t ≡ readOutcome (Good r) p′ t′)
+    ↔ ((s : Progress) × ReadsInOrder sheet p t s × NoLoop (sheetRead s) × (readOutcome (Good (handed (s .seen))) (s .periodics) (s .triggers) ≡ readOutcome (Good r) p′ t′))
 reader-accepts = Reader.reader-accepts
 
 -- A step answers LOOP at k exactly when all that is tested before it is in order and the loop of the lent rows is at k,
@@ -147,11 +146,11 @@ p-table = all-say
 -- ==== SHUT OUT, as 'How far a contract must go' lists it.
 
 -- A box that refuses everything: the worked sheet is accepted.
-pub not-all-refused : reading workedSheet noPeriodics noTriggers ≡ outcome (Good (record { roles = 3; periodics = 1; triggers = 2 })) (worked .periodics) (worked .triggers)
+pub not-all-refused : reading workedSheet noPeriodics noTriggers ≡ readOutcome (Good (record { roles = 3; periodics = 1; triggers = 2 })) (worked .periodics) (worked .triggers)
 not-all-refused = Shut.is-worked .read
 
 -- A test that passes everything: "enable 0 gives disable 0" is refused with LOOP at place 0.
-pub not-all-passed : reading looped noPeriodics noTriggers ≡ outcome (Bad (record { name = LOOP; place = 0 })) noPeriodics noTriggers
+pub not-all-passed : reading looped noPeriodics noTriggers ≡ readOutcome (Bad (record { name = LOOP; place = 0 })) noPeriodics noTriggers
 not-all-passed = Looped.not-all-passed
 
 -- The first two minutes of the worked input can be run,

@@ -20,7 +20,8 @@ use Rattle.theory.specs.Sheet.{GoodOrder, ofRoles, periodicFits, triggerFits}
 use Rattle.theory.specs.Laws.Exact.{exact}
 use Rattle.answers.specs.declared.Name.{Name}
 use Rattle.answers.specs.declared.Verdict.{Verdict}
-use Rattle.answers.specs.Answers.{answered, numberOf}
+use Rattle.answers.specs.declared.Tests.{Tests}
+use Rattle.answers.specs.Answers.{answered, numberOf, inOrder}
 use Rattle.tables.specs.Asked.{flat, requestAt}
 use Rattle.tables.specs.Buffers.{bit, eventsOf, rolesOf}
 use Rattle.tables.specs.Layout.{TRIGGER-BYTES, byteAt, periodicAt, sheetOf, triggerAt, triggersOf, two}
@@ -34,7 +35,8 @@ use Rattle.waiting.specs.Waiting.{cleared, copied, placeOf}
 use Rattle.delays.specs.Delays.{triggerEntry}
 use Rattle.after.specs.After.{rolesBelow}
 use Rattle.rows.specs.Exact.{wholeRows}
-use Rattle.rows.specs.Rows.{Become, Row, RowIs, edgesOf, linked, reaches, whole}
+use Rattle.event_rows.specs.Row.{Row, RowIs, reaches, whole}
+use Rattle.rows.specs.Rows.{Become, edgesOf, linked}
 use Rattle.edges.specs.Drawing.{addedFrom, drawsBelow, tailOf}
 use Rattle.loops.specs.declared.Found.{Found}
 use Rattle.loops.specs.Tested.{tested}
@@ -54,13 +56,13 @@ use Rattle.row_counts.specs.Counts.{countsAgree, roomFor}
 use Rattle.fields.specs.Fields.{frameFits}
 use Rattle.line_tests.specs.declared.Seen.{Seen}
 use Rattle.line_tests.specs.Judge.{judgeLine}
-use Rattle.line_acts.specs.Acts.{after, state}
+use Rattle.line_acts.specs.Acts.{after, progress}
 use Rattle.lines.specs.declared.Taken.{Taken}
 use Rattle.lines.specs.Exact.{Same}
 use Rattle.lines.specs.Lines.{fresh, reads}
 use Rattle.readings.specs.declared.Reading.{Reading}
 use Rattle.readings.specs.Readings.{verdictOf}
-use Rattle.hand_out.specs.Out.{afterLines, outcome}
+use Rattle.hand_out.specs.Out.{afterLines, readOutcome}
 use Rattle.sheet.specs.Sheet.{reading}
 use Rattle.requests.specs.declared.Request.{Request}
 use Rattle.requests.specs.Asked.{requestOf}
@@ -83,6 +85,7 @@ use Rattle.days.specs.Day.{DayOutcome}
 use Rattle.lines.specs.Laws.Took
 use Rattle.periodics.specs.Exact as periodics
 use Rattle.solver.specs.Exact as solver
+use Rattle.event_rows.specs.Exact as EventRows
 use Rattle.rows.specs.Exact as Rows
 use Rattle.reach.specs.Exact as reach
 use Rattle.edges.specs.Exact as edges
@@ -133,6 +136,10 @@ answers-number-of name r r′ = exact
 pub answers-answer-of : (verdict : Verdict) → Exact (λ r. r ≡ answered verdict)
 answers-answer-of verdict r r′ = exact
 
+-- answers::in_order
+pub answers-in-order : (tests : Tests) (last : Name) (place : ℕ) → Exact (λ r. r ≡ inOrder tests last place)
+answers-in-order tests last place r r′ = exact
+
 -- ---- basic
 
 -- basic::both
@@ -143,22 +150,6 @@ basic-both a b r r′ = exact
 pub basic-either : (a b : Bool) → Exact (λ r. r ≡ (a || b))
 basic-either a b r r′ = exact
 
--- basic::wide
-pub basic-wide : (x : ℕ) → Exact (λ r. r ≡ x)
-basic-wide x r r′ = exact
-
--- basic::index
-pub basic-index : (x : ℕ) → Exact (λ r. r ≡ x)
-basic-index x r r′ = exact
-
--- basic::row_index
-pub basic-row-index : (row : ℕ) → Exact (λ r. r ≡ row)
-basic-row-index row r r′ = exact
-
--- basic::long
-pub basic-long : (x : ℕ) → Exact (λ r. r ≡ x)
-basic-long x r r′ = exact
-
 -- basic::one
 pub basic-one : (t : Bool) → Exact (λ r. (r ≡ one t) × (r < 2))
 basic-one t r r′ h h′ = exact (h .0) (h′ .0)
@@ -166,6 +157,24 @@ basic-one t r r′ h h′ = exact (h .0) (h′ .0)
 -- basic::conflict
 pub basic-conflict : (e : ℕ) → Exact (λ r. r ≡ conf e)
 basic-conflict e r r′ = exact
+
+-- ---- widths
+
+-- widths::wide
+pub widths-wide : (x : ℕ) → Exact (λ r. r ≡ x)
+widths-wide x r r′ = exact
+
+-- widths::index
+pub widths-index : (x : ℕ) → Exact (λ r. r ≡ x)
+widths-index x r r′ = exact
+
+-- widths::row_index
+pub widths-row-index : (row : ℕ) → Exact (λ r. r ≡ row)
+widths-row-index row r r′ = exact
+
+-- widths::long
+pub widths-long : (x : ℕ) → Exact (λ r. r ≡ x)
+widths-long x r r′ = exact
 
 -- ---- tables
 
@@ -297,23 +306,25 @@ after-roles-after roles events r r′ = exact
 pub after-count : (events : List ℕ) → Exact (λ r. r ≡ countBelow EVENTS (nonblocked (eventsOf events) (eventsOf events)))
 after-count events r r′ = exact
 
+-- ---- event_rows
+
+-- event_rows::reaches
+pub event-rows-reaches : (row : Row) (b : ℕ) → Exact (λ r. r ≡ reaches row b)
+event-rows-reaches row b r r′ = exact
+
+-- event_rows::with
+pub event-rows-with : (row : Row) (b : ℕ) (on : Bool) → whole row → Exact (λ row′. ((f : ℕ → Bool) → RowIs f row → RowIs (λ x. f x || (on && eqb b x)) row′))
+event-rows-with row b on h r r′ = EventRows.with-exact row b on r r′ h
+
+-- event_rows::joined
+pub event-rows-joined : (x y : Row) → whole x → whole y → Exact (λ r. ((f g : ℕ → Bool) → RowIs f x → RowIs g y → RowIs (λ b. f b || g b) r))
+event-rows-joined x y h k r r′ = EventRows.joined-exact x y r r′ h k
+
+-- event_rows::some
+pub event-rows-some : (row : Row) → Exact (λ r. r ≡ anyBelow EVENTS (reaches row))
+event-rows-some row r r′ = exact
+
 -- ---- rows
-
--- rows::reaches
-pub rows-reaches : (row : Row) (b : ℕ) → Exact (λ r. r ≡ reaches row b)
-rows-reaches row b r r′ = exact
-
--- rows::with
-pub rows-with : (row : Row) (b : ℕ) (on : Bool) → whole row → Exact (λ row′. ((f : ℕ → Bool) → RowIs f row → RowIs (λ x. f x || (on && eqb b x)) row′))
-rows-with row b on h r r′ = Rows.with-exact row b on r r′ h
-
--- rows::joined
-pub rows-joined : (x y : Row) → whole x → whole y → Exact (λ r. ((f g : ℕ → Bool) → RowIs f x → RowIs g y → RowIs (λ b. f b || g b) r))
-rows-joined x y h k r r′ = Rows.joined-exact x y r r′ h k
-
--- rows::some
-pub rows-some : (row : Row) → Exact (λ r. r ≡ anyBelow EVENTS (reaches row))
-rows-some row r r′ = exact
 
 -- rows::leads
 pub rows-leads : (rows : List Row) (a b : ℕ) → Exact (λ r. r ≡ edgesOf rows a b)
@@ -446,14 +457,14 @@ line-tests-line-judged line s place r r′ = exact
 
 -- line_acts::act
 pub line-acts-act : (line : List ℕ) (s : Seen) (periodics triggers : List ℕ)
-    → Exact₃ (λ r periodics′ triggers′. state r periodics′ triggers′ ≡ after (state s periodics triggers) (bytesOf line))
+    → Exact₃ (λ r periodics′ triggers′. progress r periodics′ triggers′ ≡ after (progress s periodics triggers) (bytesOf line))
 line-acts-act = line-acts.act-exact
 
 -- ---- lines
 
 -- lines::read_lines
 pub lines-read-lines : (sheet periodics triggers : List ℕ) (r r₂ : Taken) (periodics′ periodics₂ triggers′ triggers₂ : List ℕ)
-    → Took.took r periodics′ triggers′ ≡ reads (goes (state fresh periodics triggers)) (lines sheet) → Took.took r₂ periodics₂ triggers₂ ≡ reads (goes (state fresh periodics triggers)) (lines sheet)
+    → Took.took r periodics′ triggers′ ≡ reads (goes (progress fresh periodics triggers)) (lines sheet) → Took.took r₂ periodics₂ triggers₂ ≡ reads (goes (progress fresh periodics triggers)) (lines sheet)
     → Same r r₂ periodics′ periodics₂ triggers′ triggers₂
 lines-read-lines = Lines.read-lines-exact
 
@@ -467,13 +478,13 @@ readings-verdict-of reading r r′ = exact
 
 -- hand_out::hand_out
 pub hand-out-hand-out : (s : Seen) (per trg periodics triggers : List ℕ)
-    → Exact₃ (λ r periodics′ triggers′. outcome r periodics′ triggers′ ≡ afterLines (state s per trg) periodics triggers)
-hand-out-hand-out s per trg = hand-out.hand-out-exact (state s per trg)
+    → Exact₃ (λ r periodics′ triggers′. readOutcome r periodics′ triggers′ ≡ afterLines (progress s per trg) periodics triggers)
+hand-out-hand-out s per trg = hand-out.hand-out-exact (progress s per trg)
 
 -- ---- sheet
 
 -- sheet::read_sheet
-pub sheet-read-sheet : (sheet periodics triggers : List ℕ) → Exact₃ (λ r periodics′ triggers′. outcome r periodics′ triggers′ ≡ reading sheet periodics triggers)
+pub sheet-read-sheet : (sheet periodics triggers : List ℕ) → Exact₃ (λ r periodics′ triggers′. readOutcome r periodics′ triggers′ ≡ reading sheet periodics triggers)
 sheet-read-sheet = sheet.read-sheet-exact
 
 -- ---- requests

@@ -17,16 +17,16 @@ use Rattle.tables.specs.Layout.{PERIODIC-TABLE, TRIGGER-TABLE}
 use Rattle.tables.specs.Buffers.{rolesOf}
 use Rattle.tables.specs.Asked.{Asked, asks}
 use Rattle.walks.specs.Walks.{goes}
-use Rattle.line_acts.specs.Acts.{State}
+use Rattle.line_acts.specs.Acts.{Progress}
 use Rattle.lines.specs.Lines.{reads}
 use Rattle.sheet.specs.Sheet.{start, lengthsFit}
 use Rattle.row_judge.specs.Judge.{Rules, rules, sheetIn}
 use Rattle.step.specs.Outcome.{Lent, stateIn}
-use Rattle.examples.specs.Day.{text, sheetLines, tapeLines, askedAt, filled}
+use Rattle.examples.specs.Day.{text, sheetStrings, tapeStrings, askedAt, padded}
 use Rattle.examples.specs.Table.{input, periodics, triggers}
 
 -- A SHEET IN GOOD ORDER, as bytes: LENGTH is not given, and every line passes its tests up to and with the end; s is what was read of them.
-pub record ReadsInOrder (sheet p t : List ℕ) (s : State) : Type 0 where
+pub record ReadsInOrder (sheet p t : List ℕ) (s : Progress) : Type 0 where
   pub lengths : lengthsFit (length sheet) (length p) (length t) ≡ true
   pub to-its-end : reads (goes start) (lines sheet) ≡ goes s
 
@@ -63,10 +63,10 @@ looped = text ("100101EE" ∷ "30010001000500C9" ∷ "F00000010F" ∷ [])
 
 -- document 01's worked input: the bytes of its sheet, what the reader hands out of them, as it is lent to a step, and the requests of its tape
 abbrev pub workedSheet : List ℕ
-workedSheet = text (sheetLines (input .input))
+workedSheet = text (sheetStrings (input .input))
 
 abbrev pub worked : Rules
-worked = rules 3 1 2 (filled PERIODIC-TABLE periodics) (filled TRIGGER-TABLE triggers)
+worked = rules 3 1 2 (padded PERIODIC-TABLE periodics) (padded TRIGGER-TABLE triggers)
 
 abbrev pub asked : ℕ → Asked
-asked = askedAt (tapeLines (input .input))
+asked = askedAt (tapeStrings (input .input))

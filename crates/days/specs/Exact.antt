@@ -43,10 +43,10 @@ one-day input plan p t tape x a b m n =
 
 by-answer : (input : List ℕ) (o : Opened) → planned input .answer ≡ o → One (opening input)
 by-answer input (Opens plan) h =
-    let x = plan-opens input (planned input .periodic) (planned input .triggers) (planned input .answer) refl plan h in
-    subst One (sym (x .opens-it)) (one-day input plan (planned input .periodic) (planned input .triggers) (drop (plan .from) input) x)
+    let x = plan-opens input (planned input .periodics) (planned input .triggers) (planned input .answer) refl plan h in
+    subst One (sym (x .opens-it)) (one-day input plan (planned input .periodics) (planned input .triggers) (drop (plan .from) input) x)
 by-answer input (Refuses x) h =
-    subst One (sym (plan-refuses input (planned input .periodic) (planned input .triggers) (planned input .answer) refl x h)) (λ a b m n. exact m n)
+    subst One (sym (plan-refuses input (planned input .periodics) (planned input .triggers) (planned input .answer) refl x h)) (λ a b m n. exact m n)
 
 -- AN INPUT HAS ONE DAY
 pub prints-one : (input a b : List ℕ) → Prints (opening input) a → Prints (opening input) b → a ≡ b

@@ -6,11 +6,11 @@ ghost use Rattle.masks.specs.Joins.{joins};
 ghost use Rattle.due.specs.Due.{dueAt};
 use basic::both;
 use basic::either;
-use basic::index;
-use basic::long;
 use masks::join_where;
 use periodics::PeriodicRow;
 use periodics::periodic_row;
+use widths::index;
+use widths::long;
 
 // a less b, and 0 where b is more.
 fn less(a: u64, b: u64) -> u64

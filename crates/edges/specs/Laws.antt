@@ -15,8 +15,9 @@ use Rattle.theory.specs.Sheet.{Trigger, Sheet}
 use Rattle.theory.specs.Graph.{Edges, counts, node, drawn}
 use Rattle.theory.specs.Laws.Tests.{same-or}
 use Rattle.tables.specs.Layout.{triggerAt, sheetOf, triggersOf}
-use Rattle.rows.specs.Rows.{Row, reaches, RowIs, RowsAre, linked}
-use Rattle.rows.specs.Laws.Row.{row-same, empty-row}
+use Rattle.event_rows.specs.Row.{Row, reaches, RowIs}
+use Rattle.rows.specs.Rows.{RowsAre, linked}
+use Rattle.event_rows.specs.Laws.Row.{row-same, empty-row}
 use Rattle.rows.specs.Laws.Rows.{rows-same}
 use Rattle.edges.specs.Drawing.{leaves, draws, drawsBelow, addedFrom}
 

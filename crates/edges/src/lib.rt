@@ -2,9 +2,10 @@ ghost use mathlib.Core.Path.{_≡_};
 ghost use Prim.Native.Nat.{ℕ};
 ghost use Rattle.theory.specs.Graph.{node};
 ghost use Rattle.tables.specs.Layout.{triggersOf};
-ghost use Rattle.rows.specs.Rows.{RowIs, Become};
+ghost use Rattle.event_rows.specs.Row.{RowIs};
+ghost use Rattle.rows.specs.Rows.{Become};
 ghost use Rattle.edges.specs.Drawing.{tailOf, draws, drawsBelow, addedFrom};
-use rows::Row;
+use event_rows::Row;
 use rows::Rows;
 use tables::EVENT_COUNT;
 use tables::HEAD;
@@ -20,7 +21,7 @@ pub fn nodes(triggers: &[u8], n: u16) -> Row
     while i < n {
         let on = counts_at(triggers, i);
         let head = trigger_byte(triggers, i, HEAD);
-        rows::with(&mut heads, head, on);
+        event_rows::with(&mut heads, head, on);
         i += 1;
     }
     heads
@@ -46,7 +47,7 @@ fn draw_trigger(rows: &mut Rows, triggers: &[u8], i: u16, heads: &Row, negative:
     let mut j: u8 = 0;
     while j < m {
         let from = tail(triggers::event(triggers, i, j), negative);
-        let on = rows::reaches(heads, from);
+        let on = event_rows::reaches(heads, from);
         rows::link(rows, from, head, on);
         j += 1;
     }

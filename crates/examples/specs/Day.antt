@@ -20,7 +20,7 @@ use Rattle.text.specs.Framed.{framed}
 use Rattle.frames.specs.Frame.{bytesOf, checked}
 use Rattle.readings.specs.declared.Read.{Read}
 use Rattle.readings.specs.declared.Reading.the-variants.{Good}
-use Rattle.hand_out.specs.Out.{outcome}
+use Rattle.hand_out.specs.Out.{readOutcome}
 use Rattle.sheet.specs.Sheet.{reading}
 use Rattle.examples.specs.Written.{Prioritized, among, Waits, stateOf}
 
@@ -41,14 +41,14 @@ abbrev pub endsSheet : String → Bool
 endsSheet l = eqb (getD (characters l) 0 0) 70 && eqb (getD (characters l) 1 0) 48
 
 -- the sheet: the lines up to and with the first that begins F0
-abbrev pub sheetLines : List String → List String
-sheetLines [] = []
-sheetLines (l ∷ ls) = l ∷ cond (endsSheet l) [] (sheetLines ls)
+abbrev pub sheetStrings : List String → List String
+sheetStrings [] = []
+sheetStrings (l ∷ ls) = l ∷ cond (endsSheet l) [] (sheetStrings ls)
 
 -- the tape: the lines after it
-abbrev pub tapeLines : List String → List String
-tapeLines [] = []
-tapeLines (l ∷ ls) = cond (endsSheet l) ls (tapeLines ls)
+abbrev pub tapeStrings : List String → List String
+tapeStrings [] = []
+tapeStrings (l ∷ ls) = cond (endsSheet l) ls (tapeStrings ls)
 
 -- the requests of instant t among these lines, as flat numbers; a request's frame is 40, instant 4, event 1, priority 1, delay 1
 abbrev pub requestsAt : ℕ → List String → List ℕ
@@ -73,18 +73,18 @@ pub record Minute : Type 0 where
 pub record Day : Type 0 where
   pub input : List String
   pub read : Read
-  pub periodic : List ℕ
+  pub periodics : List ℕ
   pub triggers : List ℕ
   pub levels : List ℕ
   pub minutes : List Minute
 
 -- a table of n bytes that holds these rows and is otherwise zero
-abbrev pub filled : ℕ → List ℕ → List ℕ
-filled n rows = rows ++ replicate (n - length rows) 0
+abbrev pub padded : ℕ → List ℕ → List ℕ
+padded n rows = rows ++ replicate (n - length rows) 0
 
 -- the sheet of a day
 abbrev pub sheetOfDay : Day → Sheet
-sheetOfDay d = sheetOf (d .read .roles) (d .read .periodics) (d .read .triggers) (filled PERIODIC-TABLE (d .periodic)) (filled TRIGGER-TABLE (d .triggers))
+sheetOfDay d = sheetOf (d .read .roles) (d .read .periodics) (d .read .triggers) (padded PERIODIC-TABLE (d .periodics)) (padded TRIGGER-TABLE (d .triggers))
 
 -- A step from `before` has the events S and leads to `after`; S is the only solution, and any step from there is this one.
 pub record OneStep (sh : Sheet) (asks : Requests) (before : State) (S : Events) (after : State) : Type 0 where
@@ -101,12 +101,12 @@ Minutes sh asked t rs ws (m ∷ ms) =
 
 -- line i of the tape
 abbrev pub tapeLine : Day → ℕ → List ℕ
-tapeLine d i = characters (getD (tapeLines (d .input)) i "")
+tapeLine d i = characters (getD (tapeStrings (d .input)) i "")
 
 -- The sheet is read with success into tables of zeros, the tape's lines are frames with a right sum, and the instants from the fresh state on are as found.
 pub record Worked (d : Day) : Type 0 where
-  pub read : reading (text (sheetLines (d .input))) (filled PERIODIC-TABLE []) (filled TRIGGER-TABLE [])
-      ≡ outcome (Good (d .read)) (filled PERIODIC-TABLE (d .periodic)) (filled TRIGGER-TABLE (d .triggers))
-  pub tape : (i : ℕ) → i < length (tapeLines (d .input)) → (framed (tapeLine d i) ≡ true) × (checked (bytesOf (tapeLine d i)) ≡ true)
+  pub read : reading (text (sheetStrings (d .input))) (padded PERIODIC-TABLE []) (padded TRIGGER-TABLE [])
+      ≡ readOutcome (Good (d .read)) (padded PERIODIC-TABLE (d .periodics)) (padded TRIGGER-TABLE (d .triggers))
+  pub tape : (i : ℕ) → i < length (tapeStrings (d .input)) → (framed (tapeLine d i) ≡ true) × (checked (bytesOf (tapeLine d i)) ≡ true)
   pub fresh : Fresh noRoles (stateOf 0 [] [])
-  pub minutes : Minutes (sheetOfDay d) (askedAt (tapeLines (d .input))) 0 [] [] (d .minutes)
+  pub minutes : Minutes (sheetOfDay d) (askedAt (tapeStrings (d .input))) 0 [] [] (d .minutes)

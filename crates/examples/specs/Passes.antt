@@ -22,11 +22,11 @@ use Rattle.text.specs.Framed.{framed}
 use Rattle.frames.specs.Frame.{bytesOf, checked}
 use Rattle.readings.specs.declared.Read.{Read}
 use Rattle.walks.specs.Walks.{Going, goes, refused}
-use Rattle.line_acts.specs.Acts.{State}
+use Rattle.line_acts.specs.Acts.{Progress}
 use Rattle.lines.specs.Lines.{reads}
 use Rattle.sheet.specs.Sheet.{start, lengthsFit}
 use Rattle.examples.specs.Written.{Prioritized, at, first, among, Rule, triggerOf, ruleAt, sheetWith, Waits, waitAt, rolesIn, rowsIn, stateOf}
-use Rattle.examples.specs.Day.{text, sheetLines, tapeLines, askedAt, Minute, Day, filled, sheetOfDay, tapeLine}
+use Rattle.examples.specs.Day.{text, sheetStrings, tapeStrings, askedAt, Minute, Day, padded, sheetOfDay, tapeLine}
 use Rattle.examples.specs.Example.{Example, each, due-at, wins-over, accepted, loops, solved, as-given, never-fires, worked, rowOf}
 
 -- where a passes, b does
@@ -144,21 +144,21 @@ same (a ∷ k) [] = false
 same (a ∷ k) (b ∷ l) = eqb a b && same k l
 
 -- the lines were read to these counts and tables
-abbrev pub readTo : Going State → Read → List ℕ → List ℕ → Bool
+abbrev pub readTo : Going Progress → Read → List ℕ → List ℕ → Bool
 readTo (goes s) r p t =
     ((eqb (s .seen .roles) (r .roles) && eqb (s .seen .periodics) (r .periodics)) && eqb (s .seen .triggers) (r .triggers))
-    && (same (s .periodic) p && same (s .triggers) t)
+    && (same (s .periodics) p && same (s .triggers) t)
 readTo (refused r) _ p t = false
 
 -- the sheet's lines are read to what is expected
 unfoldable pub readFound : Day → Bool
 readFound d =
-    lengthsFit (length (text (sheetLines (d .input)))) (length (filled PERIODIC-TABLE [])) (length (filled TRIGGER-TABLE []))
-    && readTo (reads (goes start) (lines (text (sheetLines (d .input))))) (d .read) (filled PERIODIC-TABLE (d .periodic)) (filled TRIGGER-TABLE (d .triggers))
+    lengthsFit (length (text (sheetStrings (d .input)))) (length (padded PERIODIC-TABLE [])) (length (padded TRIGGER-TABLE []))
+    && readTo (reads (goes start) (lines (text (sheetStrings (d .input))))) (d .read) (padded PERIODIC-TABLE (d .periodics)) (padded TRIGGER-TABLE (d .triggers))
 
 -- the tape's lines are frames with a right sum
 unfoldable pub tapeFound : Day → Bool
-tapeFound d = allBelow (length (tapeLines (d .input))) (λ i. framed (tapeLine d i) && checked (bytesOf (tapeLine d i)))
+tapeFound d = allBelow (length (tapeStrings (d .input))) (λ i. framed (tapeLine d i) && checked (bytesOf (tapeLine d i)))
 
 -- THE TEST of an example
 abbrev pub passes : Example → Bool
@@ -178,7 +178,7 @@ passes (as-given rules) = allBelow (length rules) (λ i. not (immediate (trigger
 passes (never-fires events) = anyBelow (length events) (λ j. anyBelow (length events) (λ k. opposed (getD events j 0) (getD events k 0)))
 passes (worked d) =
     ((readFound d && tapeFound d) && (goodOrder (sheetOfDay d) && leveled (sheetOfDay d) (listed (d .levels))))
-    && minutesFound (sheetOfDay d) (askedAt (tapeLines (d .input))) 0 [] [] (d .minutes)
+    && minutesFound (sheetOfDay d) (askedAt (tapeStrings (d .input))) 0 [] [] (d .minutes)
 
 -- THE TEST of a table
 abbrev pub passing : List Example → Bool

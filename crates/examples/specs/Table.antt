@@ -12,6 +12,7 @@ use Rattle.theory.specs.Instant.{allows, met, ready, waitsFor, rolesAfter}
 use Rattle.theory.specs.Graph.{counts, node, drawn, edge}
 use Rattle.theory.specs.Box.{givens, rowAfter}
 use Rattle.theory.specs.Laws.Exists.{fire, round}
+use Rattle.answers.specs.Answers.{inOrder}
 use Rattle.tables.specs.Layout.{periodicAt, triggerFrom, sheetOf}
 use Rattle.tables.specs.Asked.{asks, requestAt}
 use Rattle.text.specs.Framed.{isDigit, framed}
@@ -21,7 +22,7 @@ use Rattle.trigger_frames.specs.Row.{placed, eventPlace, conditionPlace, lastPl
 use Rattle.kinds.specs.Kinds.{sizeOf, mayStand}
 use Rattle.row_counts.specs.Counts.{roomFor, countsAgree}
 use Rattle.fields.specs.Fields.{headerFits, frameFits}
-use Rattle.line_tests.specs.Judge.{inOrder, judgeFrame, judgeLine}
+use Rattle.line_tests.specs.Judge.{lineTests, judgeLine}
 use Rattle.line_acts.specs.Acts.{seenAfter, tableAfter, after}
 use Rattle.lines.specs.Line.{lineStep}
 use Rattle.walks.specs.Walks.{byVerdict, walks}
@@ -81,7 +82,7 @@ input =
           ∷ "F1000000040B"
           ∷ [];
       read = record { roles = 3; periodics = 1; triggers = 2 };
-      periodic = periodics;
+      periodics = periodics;
       triggers = triggers;
       levels = [];
       minutes =
@@ -133,7 +134,7 @@ table =
 all-pass : passing table ≡ true
 unfolding anyBelow allBelow conf holds blocks blocked nonblocked endFits periodicFits triggerFits untilEnd rowDue due allows met ready waitsFor rolesAfter
     counts node drawn edge givens rowAfter fire round periodicAt triggerFrom sheetOf asks requestAt isDigit value framed checked
-    sizeOf mayStand periodicRow placed eventPlace conditionPlace lastPlace triggerRow headerFits frameFits roomFor countsAgree inOrder judgeFrame judgeLine
+    sizeOf mayStand periodicRow placed eventPlace conditionPlace lastPlace triggerRow headerFits frameFits roomFor countsAgree inOrder lineTests judgeLine
     seenAfter tableAfter after byVerdict lineStep atEnd walks lengthsFit
     first rolesIn rowsIn goodOrder leveled loopsAt selfCaused givensHeld rolesFound waitsFound readFound tapeFound
 all-pass = refl

@@ -2,7 +2,7 @@ ghost use mathlib.Core.Path.{_≡_};
 ghost use Prim.Native.Nat.{_%_};
 ghost use lib.ListN.{getD, length};
 ghost use Rattle.frames.specs.Frame.{value, bytesOf, checked, sum};
-use basic::wide;
+use widths::wide;
 
 // What a digit stands for; 0 for what is none. (The compiler makes a table of it.)
 fn digit(c: u8) -> u8

@@ -9,35 +9,35 @@ use Rattle.theory.specs.LoopTest.{PAIRS, loopPlace}
 use Rattle.answers.specs.declared.Name.the-variants.{Loop}
 use Rattle.tables.specs.Layout.{sheetOf}
 use Rattle.line_tests.specs.declared.Seen.{Seen}
-use Rattle.line_acts.specs.Acts.{State}
+use Rattle.line_acts.specs.Acts.{Progress}
 use Rattle.readings.specs.declared.Read.{Read}
 use Rattle.readings.specs.declared.Reading.{Reading}
 use Rattle.readings.specs.declared.Reading.the-variants.{Good, Bad}
 
 -- all that reading can change
-pub record Outcome : Type 0 where
+pub record ReadOutcome : Type 0 where
   pub answer : Reading
-  pub periodic : List ℕ
+  pub periodics : List ℕ
   pub triggers : List ℕ
 
-abbrev pub outcome : Reading → List ℕ → List ℕ → Outcome
-outcome a p t = record { answer = a; periodic = p; triggers = t }
+abbrev pub readOutcome : Reading → List ℕ → List ℕ → ReadOutcome
+readOutcome a p t = record { answer = a; periodics = p; triggers = t }
 
 -- the sheet that was read
-abbrev pub sheetRead : State → Sheet
-sheetRead s = sheetOf (s .seen .roles) (s .seen .periodics) (s .seen .triggers) (s .periodic) (s .triggers)
+abbrev pub sheetRead : Progress → Sheet
+sheetRead s = sheetOf (s .seen .roles) (s .seen .periodics) (s .seen .triggers) (s .periodics) (s .triggers)
 
 -- what was read, as it is handed out
 abbrev pub handed : Seen → Read
 handed s = record { roles = s .roles; periodics = s .periodics; triggers = s .triggers }
 
 -- after the last line LOOP is tested: at this place, or nowhere
-unfoldable pub byLoop : ℕ → State → List ℕ → List ℕ → Outcome
+unfoldable pub byLoop : ℕ → Progress → List ℕ → List ℕ → ReadOutcome
 byLoop k s p t =
     cond (ltb k PAIRS)
-    (outcome (Bad (record { name = Loop; place = k })) p t)
-    (outcome (Good (handed (s .seen))) (s .periodic) (s .triggers))
+    (readOutcome (Bad (record { name = Loop; place = k })) p t)
+    (readOutcome (Good (handed (s .seen))) (s .periodics) (s .triggers))
 
 -- by the place that the loop test finds in the sheet that was read
-abbrev pub afterLines : State → List ℕ → List ℕ → Outcome
+abbrev pub afterLines : Progress → List ℕ → List ℕ → ReadOutcome
 afterLines s p t = byLoop (loopPlace (sheetRead s)) s p t

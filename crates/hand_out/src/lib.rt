@@ -4,8 +4,8 @@ ghost use Rattle.theory.specs.LoopTest.{loopPlace};
 ghost use Rattle.tables.specs.Layout.{triggersOf};
 ghost use Rattle.loops.specs.Tested.{foundAt};
 ghost use Rattle.judge.specs.Judged.{loopVerdict};
-ghost use Rattle.line_acts.specs.Acts.{state};
-ghost use Rattle.hand_out.specs.Out.{outcome, afterLines};
+ghost use Rattle.line_acts.specs.Acts.{progress};
+ghost use Rattle.hand_out.specs.Out.{readOutcome, afterLines};
 use answers::Verdict;
 use line_tests::Seen;
 use readings::Read;
@@ -37,7 +37,7 @@ pub fn hand_out(
     triggers: &mut [u8],
 ) -> Reading
     requires { ⌜ (length (now per) ≡ length (now periodics)) × (length (now trg) ≡ length (now triggers)) ⌝ }
-    ensures { λ r. ⌜ outcome r (now (periodics .exit)) (now (triggers .exit)) ≡ afterLines (state s (now (per .entry)) (now (trg .entry))) (now (periodics .entry)) (now (triggers .entry)) ⌝ }
+    ensures { λ r. ⌜ readOutcome r (now (periodics .exit)) (now (triggers .exit)) ≡ afterLines (progress s (now (per .entry)) (now (trg .entry))) (now (periodics .entry)) (now (triggers .entry)) ⌝ }
 {
     let v = loop_judged(trg, s.triggers);
     match v {

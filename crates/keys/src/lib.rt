@@ -3,14 +3,14 @@ ghost use Prim.Native.Nat.{ℕ, _<_, _≤_};
 ghost use Rattle.theory.specs.Numbers.{TRIGGER-ROWS};
 ghost use Rattle.theory.specs.Laws.Stage.{Gap};
 ghost use Rattle.keys.specs.Keys.{KEYS, keyIn, Chained};
-use basic::index;
-use basic::row_index;
 use bodies::allows;
 use masks::number;
 use tables::HEAD;
 use tables::byte;
 use tables::trigger_byte;
 use triggers::counts_at;
+use widths::index;
+use widths::row_index;
 
 // The key of trigger i: one more than the level of its head, and 0 where it does not count or its conditions do not all hold.
 fn key_of(triggers: &[u8], levels: &[u8], roles: u64, i: u16) -> u16

@@ -5,8 +5,8 @@ ghost use Rattle.frames.specs.Frame.{bytesOf};
 ghost use Rattle.kinds.specs.Kinds.{sizeOf, sized, mayStand};
 use basic::both;
 use basic::either;
-use basic::index;
 use frames::byte_at;
+use widths::index;
 
 // Which frames may come next: the header, rows and the end, or nothing more.
 pub enum Stage {

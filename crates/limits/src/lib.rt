@@ -5,8 +5,8 @@ ghost use Rattle.theory.specs.Sheet.{ofRoles, endFits, periodicFits};
 ghost use Rattle.periodics.specs.Rows.{periodicOf};
 use basic::both;
 use basic::either;
-use basic::wide;
 use periodics::PeriodicRow;
+use widths::wide;
 
 // low ≤ x ≤ high
 fn between(low: u32, x: u32, high: u32) -> bool

@@ -26,16 +26,16 @@ unfoldable pub tableAfter : ℕ → ℕ → ℕ → List ℕ → List ℕ → Li
 tableAfter k w n row table = cond (eqb k w) (paste table (length row * n) row (length row)) table
 
 -- what was read so far: the numbers, and both tables
-pub record State : Type 0 where
+pub record Progress : Type 0 where
   pub seen : Seen
-  pub periodic : List ℕ
+  pub periodics : List ℕ
   pub triggers : List ℕ
 
-abbrev pub state : Seen → List ℕ → List ℕ → State
-state s p t = record { seen = s; periodic = p; triggers = t }
+abbrev pub progress : Seen → List ℕ → List ℕ → Progress
+progress s p t = record { seen = s; periodics = p; triggers = t }
 
-unfoldable pub after : State → List ℕ → State
+unfoldable pub after : Progress → List ℕ → Progress
 after s f =
-    state (seenAfter (kind f) (byteAt f 2) (s .seen))
-    (tableAfter (kind f) PERIODIC (s .seen .periodics) (periodicRow f) (s .periodic))
+    progress (seenAfter (kind f) (byteAt f 2) (s .seen))
+    (tableAfter (kind f) PERIODIC (s .seen .periodics) (periodicRow f) (s .periodics))
     (tableAfter (kind f) TRIGGER (s .seen .triggers) (triggerRow f) (s .triggers))

@@ -6,11 +6,11 @@ use Prim.Native.Nat.{ℕ}
 use Rattle.theory.specs.Laws.Exact.{exact}
 use Rattle.frames.specs.Frame.{bytesOf}
 use Rattle.line_tests.specs.declared.Seen.{Seen}
-use Rattle.line_acts.specs.Acts.{State, state, after}
+use Rattle.line_acts.specs.Acts.{Progress, progress, after}
 
 pub act-exact : (line : List ℕ) (s : Seen) (p t : List ℕ) (r r′ : Seen) (p₁ p₂ t₁ t₂ : List ℕ)
-    → state r p₁ t₁ ≡ after (state s p t) (bytesOf line) → state r′ p₂ t₂ ≡ after (state s p t) (bytesOf line)
+    → progress r p₁ t₁ ≡ after (progress s p t) (bytesOf line) → progress r′ p₂ t₂ ≡ after (progress s p t) (bytesOf line)
     → (r ≡ r′) × (p₁ ≡ p₂) × (t₁ ≡ t₂)
 act-exact line s p t r r′ p₁ p₂ t₁ t₂ h h′ =
-    let e : state r p₁ t₁ ≡ state r′ p₂ t₂ = exact h h′ in
-    (ap (λ (x : State). x .seen) e, ap (λ (x : State). x .periodic) e, ap (λ (x : State). x .triggers) e)
+    let e : progress r p₁ t₁ ≡ progress r′ p₂ t₂ = exact h h′ in
+    (ap (λ (x : Progress). x .seen) e, ap (λ (x : Progress). x .periodics) e, ap (λ (x : Progress). x .triggers) e)

@@ -8,7 +8,7 @@ ghost use Rattle.periodic_frames.specs.Row.{periodicRow};
 ghost use Rattle.trigger_frames.specs.Row.{triggerRow};
 ghost use Rattle.kinds.specs.Kinds.{PERIODIC, TRIGGER, kind};
 ghost use Rattle.row_counts.specs.Counts.{roomFor};
-ghost use Rattle.line_acts.specs.Acts.{seenAfter, tableAfter, state, after};
+ghost use Rattle.line_acts.specs.Acts.{seenAfter, tableAfter, progress, after};
 use frames::byte_at;
 use kinds::Stage;
 use line_tests::Seen;
@@ -61,7 +61,7 @@ fn put_periodic(line: &[u8], k: u8, n: u16, table: &mut [u8])
 {
     if k == 32 {
         let row = periodic_frames::periodic_row(line);
-        tables::copy_in(table, 16 * basic::row_index(n), &row);
+        tables::copy_in(table, 16 * widths::row_index(n), &row);
     }
 }
 
@@ -72,14 +72,14 @@ fn put_trigger(line: &[u8], k: u8, n: u16, table: &mut [u8])
 {
     if k == 48 {
         let row = trigger_frames::trigger_row(line);
-        tables::copy_in(table, 13 * basic::row_index(n), &row);
+        tables::copy_in(table, 13 * widths::row_index(n), &row);
     }
 }
 
 // What a frame that passed does: what was read so far goes on, and a row joins its table. (For `lines` alone, which has shown that the frame passed, so that there is room.)
 pub fn act(line: &[u8], s: Seen, periodics: &mut [u8], triggers: &mut [u8]) -> Seen
     requires { ⌜ ((s .line < 16384) × (roomFor (kind (bytesOf (now line))) (s .periodics) (s .triggers) ≡ true)) × ((length (now periodics) ≡ PERIODIC-TABLE) × (length (now triggers) ≡ TRIGGER-TABLE)) ⌝ }
-    ensures { λ r. ⌜ state r (now (periodics .exit)) (now (triggers .exit)) ≡ after (state s (now (periodics .entry)) (now (triggers .entry))) (bytesOf (now (line .entry))) ⌝ }
+    ensures { λ r. ⌜ progress r (now (periodics .exit)) (now (triggers .exit)) ≡ after (progress s (now (periodics .entry)) (now (triggers .entry))) (bytesOf (now (line .entry))) ⌝ }
 {
     let k = byte_at(line, 0);
     let p = s.periodics;

@@ -5,8 +5,8 @@ use Prim.Native.Nat.{ℕ, _+_}
 use Rattle.frames.specs.Frame.{bytesOf}
 use Rattle.line_tests.specs.Judge.{judgeLine}
 use Rattle.walks.specs.Walks.{Going, byVerdict}
-use Rattle.line_acts.specs.Acts.{State, after}
+use Rattle.line_acts.specs.Acts.{Progress, after}
 
 -- THE LINE: its tests, at the line after those that were read, and what it does
-unfoldable pub lineStep : State → List ℕ → Going State
+unfoldable pub lineStep : Progress → List ℕ → Going Progress
 lineStep s l = byVerdict (judgeLine (s .seen .line + 1) (s .seen) l) (after s (bytesOf l))

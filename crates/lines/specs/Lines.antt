@@ -7,21 +7,21 @@ use Rattle.walks.specs.Walks.{Going, goes, refused, Reader, walks}
 use Rattle.kinds.specs.declared.Stage.{Stage}
 use Rattle.kinds.specs.declared.Stage.the-variants.{Start, Rows, Ended}
 use Rattle.line_tests.specs.declared.Seen.{Seen}
-use Rattle.line_acts.specs.Acts.{State}
+use Rattle.line_acts.specs.Acts.{Progress}
 use Rattle.lines.specs.Line.{lineStep}
 
 -- after the last line: the end frame was there, else KIND at the line after it
-unfoldable pub atEnd : Stage → State → Going State
+unfoldable pub atEnd : Stage → Progress → Going Progress
 atEnd Start s = refused (record { name = Kind; place = s .seen .line + 1 })
 atEnd Rows s = refused (record { name = Kind; place = s .seen .line + 1 })
 atEnd Ended s = goes s
 
 -- the reader of a sheet
-abbrev pub sheetReader : Reader State
+abbrev pub sheetReader : Reader Progress
 sheetReader = record { read = λ s. s .seen .line; takes = lineStep; ends = λ s. atEnd (s .seen .stage) s }
 
 -- what comes of a sheet's lines from here on
-abbrev pub reads : Going State → Lines → Going State
+abbrev pub reads : Going Progress → Lines → Going Progress
 reads = walks sheetReader
 
 -- before the first line

@@ -5,7 +5,7 @@ ghost use lib.ListN.{length};
 ghost use Rattle.theory.specs.Numbers.{SHEET-BYTES};
 ghost use Rattle.text.specs.Lines.{lines};
 ghost use Rattle.tables.specs.Layout.{PERIODIC-TABLE, TRIGGER-TABLE};
-ghost use Rattle.line_acts.specs.Acts.{state};
+ghost use Rattle.line_acts.specs.Acts.{progress};
 ghost use Rattle.walks.specs.Walks.{goes};
 ghost use Rattle.lines.specs.Line.{lineStep};
 ghost use Rattle.lines.specs.Lines.{atEnd, reads, fresh};
@@ -25,7 +25,7 @@ pub enum Taken {
 // One line: its tests, and what it does.
 fn take(line: &[u8], s: Seen, periodics: &mut [u8], triggers: &mut [u8]) -> Taken
     requires { ⌜ (s .line < 16384) × ((length (now periodics) ≡ PERIODIC-TABLE) × (length (now triggers) ≡ TRIGGER-TABLE)) ⌝ }
-    ensures { λ r. ⌜ took r (now (periodics .exit)) (now (triggers .exit)) ≡ lineStep (state s (now (periodics .entry)) (now (triggers .entry))) (now (line .entry)) ⌝ }
+    ensures { λ r. ⌜ took r (now (periodics .exit)) (now (triggers .exit)) ≡ lineStep (progress s (now (periodics .entry)) (now (triggers .entry))) (now (line .entry)) ⌝ }
 {
     let v = line_tests::line_judged(line, s, s.line + 1);
     match v {
@@ -37,7 +37,7 @@ fn take(line: &[u8], s: Seen, periodics: &mut [u8], triggers: &mut [u8]) -> Take
 // After the last line.
 fn at_end(s: Seen) -> Taken
     requires { ⌜ s .line ≤ 16384 ⌝ }
-    ensures { λ r. ⌜ ((p t : List ℕ) → took r p t ≡ atEnd (s .stage) (state s p t)) ⌝ }
+    ensures { λ r. ⌜ ((p t : List ℕ) → took r p t ≡ atEnd (s .stage) (progress s p t)) ⌝ }
 {
     let stage = s.stage;
     match stage {
@@ -56,7 +56,7 @@ fn at_end(s: Seen) -> Taken
 // The lines in order, into tables that are lent empty. (For `sheet` alone, which has tested LENGTH; what the tables hold after a refusal nobody asks.)
 pub fn read_lines(sheet: &[u8], periodics: &mut [u8], triggers: &mut [u8]) -> Taken
     requires { ⌜ (length (now sheet) ≤ SHEET-BYTES) × ((length (now periodics) ≡ PERIODIC-TABLE) × (length (now triggers) ≡ TRIGGER-TABLE)) ⌝ }
-    ensures { λ r. ⌜ took r (now (periodics .exit)) (now (triggers .exit)) ≡ reads (goes (state fresh (now (periodics .entry)) (now (triggers .entry)))) (lines (now (sheet .entry))) ⌝ }
+    ensures { λ r. ⌜ took r (now (periodics .exit)) (now (triggers .exit)) ≡ reads (goes (progress fresh (now (periodics .entry)) (now (triggers .entry)))) (lines (now (sheet .entry))) ⌝ }
 {
     let mut s = Seen {
         line: 0,

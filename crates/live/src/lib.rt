@@ -3,8 +3,8 @@ ghost use Rattle.theory.specs.Events.{nonblocked};
 ghost use Rattle.tables.specs.Buffers.{eventsOf};
 ghost use Rattle.masks.specs.Masks.{aliveIn};
 use basic::conflict;
-use basic::index;
 use masks::number;
+use widths::index;
 
 // Some priority of event e in the mask `own` is not blocked by the mask `against` of the conflicting event: one comparison of their highest priorities.
 fn alive(own: u16, against: u16, e: u8) -> bool

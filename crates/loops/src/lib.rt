@@ -6,9 +6,10 @@ ghost use Rattle.theory.specs.Numbers.{EVENTS};
 ghost use Rattle.theory.specs.Below.{one, countBelow, firstBelow};
 ghost use Rattle.theory.specs.LoopTest.{PAIRS};
 ghost use Rattle.tables.specs.Layout.{triggersOf};
-ghost use Rattle.rows.specs.Rows.{reaches, edgesOf};
+ghost use Rattle.event_rows.specs.Row.{reaches};
+ghost use Rattle.rows.specs.Rows.{edgesOf};
 ghost use Rattle.loops.specs.Tested.{foundAt, cycleAt, tabulate, tested};
-use rows::Row;
+use event_rows::Row;
 use rows::Rows;
 use rows::leads;
 
@@ -45,7 +46,7 @@ fn first_cycle(minus: &Rows, reach: &Rows) -> Found
         if from == 128 {
             break 'search Found::Nothing;
         }
-        if rows::some(&minus[basic::index(from)]) {
+        if event_rows::some(&minus[widths::index(from)]) {
             for to in 0..128 {
                 if on_cycle(minus, reach, from, to) {
                     break 'search Found::At(from, to);
@@ -64,8 +65,8 @@ fn count_row(counts: &mut [u8; 128], row: &Row)
     ensures { λ _. ⌜ now (counts .exit) ≡ tabulate EVENTS (λ e. getD (now (counts .entry)) e 0 + one (reaches (now (row .entry)) e)) ⌝ }
 {
     for e in 0..128 {
-        let i = basic::index(e);
-        counts[i] = counts[i] + basic::one(rows::reaches(row, e));
+        let i = widths::index(e);
+        counts[i] = counts[i] + basic::one(event_rows::reaches(row, e));
     }
 }
 

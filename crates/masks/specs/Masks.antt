@@ -6,7 +6,7 @@ use Prim.Native.Nat.{ℕ, _^_}
 use lib.Dec.{ltb}
 use lib.Bits.{bitOr}
 use lib.ListN.{getD, set}
-use Rattle.theory.specs.Numbers.{ROLES, PRIORITIES}
+use Rattle.theory.specs.Numbers.{PRIORITIES}
 use Rattle.theory.specs.Below.{anyBelow}
 use Rattle.theory.specs.Events.{blocks}
 use Rattle.tables.specs.Buffers.{bit}
@@ -22,7 +22,3 @@ withPriority m p = cond (ltb p PRIORITIES) (bitOr m (2 ^ p)) m
 -- the buffer with the priority p in its number `at`
 abbrev pub joinedAt : List ℕ → ℕ → ℕ → List ℕ
 joinedAt l at p = set l at (withPriority (getD l at 0) p)
-
--- the roles with role r, where `on`; a number over 63 is no role
-unfoldable pub withRole : ℕ → ℕ → Bool → ℕ
-withRole roles r on = cond (on && ltb r ROLES) (bitOr roles (2 ^ r)) roles

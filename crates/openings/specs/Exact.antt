@@ -10,4 +10,4 @@ use Rattle.openings.specs.Planned.{Planned, opened, planned}
 pub open-exact : (input : List ℕ) (r r′ : Opened) (p₁ p₂ t₁ t₂ : List ℕ) → opened r p₁ t₁ ≡ planned input → opened r′ p₂ t₂ ≡ planned input → (r ≡ r′) × (p₁ ≡ p₂) × (t₁ ≡ t₂)
 open-exact input r r′ p₁ p₂ t₁ t₂ h h′ =
     let e : opened r p₁ t₁ ≡ opened r′ p₂ t₂ = exact h h′ in
-    (ap (λ (x : Planned). x .answer) e, ap (λ (x : Planned). x .periodic) e, ap (λ (x : Planned). x .triggers) e)
+    (ap (λ (x : Planned). x .answer) e, ap (λ (x : Planned). x .periodics) e, ap (λ (x : Planned). x .triggers) e)

@@ -13,7 +13,7 @@ use Rattle.text.specs.Lines.{lines}
 use Rattle.readings.specs.declared.Read.{Read}
 use Rattle.readings.specs.declared.Reading.{Reading}
 use Rattle.readings.specs.declared.Reading.the-variants.{Good, Bad}
-use Rattle.hand_out.specs.Out.{Outcome, outcome}
+use Rattle.hand_out.specs.Out.{ReadOutcome, readOutcome}
 use Rattle.sheet.specs.Sheet.{reading}
 use Rattle.split.specs.declared.Parts.{Parts}
 use Rattle.split.specs.Split.{sheetBytes, sheetLines}
@@ -25,7 +25,7 @@ use Rattle.tape.specs.Tape.{tapeRead}
 use Rattle.tape.specs.Laws.{took, went, stopped}
 use Rattle.openings.specs.declared.Opened.{Opened}
 use Rattle.openings.specs.declared.Opened.the-variants.{Opens, Refuses}
-use Rattle.openings.specs.Opening.{INPUT-BYTES, sheetRead}
+use Rattle.openings.specs.Opening.{INPUT-BYTES, sheetReading}
 use Rattle.openings.specs.Planned.{Zeros, opened, byHeard, byTape, bySheet, byReading, planned}
 
 -- ---- the tape
@@ -46,9 +46,9 @@ pub part-rest : (input : List ℕ) (from : ℕ) → take (length input - from) (
 part-rest input from = take-all (length input - from) (drop from input) (omega (arith, length-drop from input))
 
 module _ (input p t : List ℕ) (zeros : Zeros p t) (s : Parts) (split : s ≡ parted 0 0 (lines input)) (a : Reading) (p′ t′ : List ℕ)
-    (read : outcome a p′ t′ ≡ reading (take (s .bytes - 0) (drop 0 input)) p t) where
+    (read : readOutcome a p′ t′ ≡ reading (take (s .bytes - 0) (drop 0 input)) p t) where
   -- it is the reading of the input's sheet
-  is-read : outcome a p′ t′ ≡ sheetRead input
+  is-read : readOutcome a p′ t′ ≡ sheetReading input
   is-read =
       let e : s .bytes ≡ 0 + sheetBytes (lines input) = ap (λ (x : Parts). x .bytes) split in
       let b : s .bytes - 0 ≡ sheetBytes (lines input) = omega (arith, e) in
@@ -56,7 +56,7 @@ module _ (input p t : List ℕ) (zeros : Zeros p t) (s : Parts) (split : s ≡ p
 
   by-sheet : (o : Opened) → o ≡ bySheet input a → opened o p′ t′ ≡ byReading input
   unfolding byReading
-  by-sheet o e = ap (λ (x : Opened). opened x p′ t′) e ∙ ap (λ (x : Outcome). opened (bySheet input (x .answer)) (x .periodic) (x .triggers)) is-read
+  by-sheet o e = ap (λ (x : Opened). opened x p′ t′) e ∙ ap (λ (x : ReadOutcome). opened (bySheet input (x .answer)) (x .periodics) (x .triggers)) is-read
 
   pub sheet-goes : (r : Read) (o : Opened) → a ≡ Good r → o ≡ byTape (take (length input - s .bytes) (drop (s .bytes) input)) r (s .bytes) (s .lines) → opened o p′ t′ ≡ byReading input
   unfolding bySheet

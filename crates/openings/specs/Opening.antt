@@ -14,7 +14,7 @@ use Rattle.tables.specs.Layout.{PERIODIC-TABLE, TRIGGER-TABLE, sheetOf}
 use Rattle.walks.specs.Walks.{Going, goes, refused}
 use Rattle.readings.specs.declared.Reading.{Reading}
 use Rattle.readings.specs.declared.Reading.the-variants.{Good, Bad}
-use Rattle.hand_out.specs.Out.{Outcome}
+use Rattle.hand_out.specs.Out.{ReadOutcome}
 use Rattle.sheet.specs.Sheet.{reading}
 use Rattle.split.specs.Split.{sheetPart, tapePart, sheetLines}
 use Rattle.tape_tests.specs.declared.Heard.{Heard}
@@ -42,12 +42,12 @@ afterSheet input (Good r) p t =
 afterSheet input (Bad r) p t = refuses r
 
 -- the reading of its sheet, into tables of zeros
-abbrev pub sheetRead : List ℕ → Outcome
-sheetRead input = reading (sheetPart input) (replicate PERIODIC-TABLE 0) (replicate TRIGGER-TABLE 0)
+abbrev pub sheetReading : List ℕ → ReadOutcome
+sheetReading input = reading (sheetPart input) (replicate PERIODIC-TABLE 0) (replicate TRIGGER-TABLE 0)
 
 -- THE OPENING
 unfoldable pub opening : List ℕ → Opening
 opening input =
     cond (leb (length input) INPUT-BYTES)
-    (afterSheet input (sheetRead input .answer) (sheetRead input .periodic) (sheetRead input .triggers))
+    (afterSheet input (sheetReading input .answer) (sheetReading input .periodics) (sheetReading input .triggers))
     (refuses (record { name = Length; place = 0 }))

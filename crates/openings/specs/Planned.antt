@@ -18,15 +18,15 @@ use Rattle.tape_tests.specs.declared.Heard.{Heard}
 use Rattle.tape.specs.Tape.{tapeRead}
 use Rattle.openings.specs.declared.Opened.{Opened}
 use Rattle.openings.specs.declared.Opened.the-variants.{Opens, Refuses}
-use Rattle.openings.specs.Opening.{INPUT-BYTES, sheetRead}
+use Rattle.openings.specs.Opening.{INPUT-BYTES, sheetReading}
 
 pub record Planned : Type 0 where
   pub answer : Opened
-  pub periodic : List ℕ
+  pub periodics : List ℕ
   pub triggers : List ℕ
 
 abbrev pub opened : Opened → List ℕ → List ℕ → Planned
-opened r p t = record { answer = r; periodic = p; triggers = t }
+opened r p t = record { answer = r; periodics = p; triggers = t }
 
 -- the tables that are read into
 abbrev pub Zeros : List ℕ → List ℕ → Type 0
@@ -46,7 +46,7 @@ bySheet input (Good r) = byTape (tapePart input) r (sheetBytes (lines input)) (s
 bySheet input (Bad x) = Refuses x
 
 unfoldable pub byReading : List ℕ → Planned
-byReading input = opened (bySheet input (sheetRead input .answer)) (sheetRead input .periodic) (sheetRead input .triggers)
+byReading input = opened (bySheet input (sheetReading input .answer)) (sheetReading input .periodics) (sheetReading input .triggers)
 
 unfoldable pub planned : List ℕ → Planned
 planned input =

@@ -2,9 +2,9 @@ ghost use mathlib.Core.Path.{_≡_};
 ghost use Prim.Native.Nat.{_<_};
 ghost use Rattle.tables.specs.Layout.{two, four, periodicAt};
 ghost use Rattle.periodics.specs.Rows.{periodicOf};
-use basic::row_index;
-use basic::wide;
 use tables::byte;
+use widths::row_index;
+use widths::wide;
 
 // A periodic row, field by field.
 pub struct PeriodicRow {

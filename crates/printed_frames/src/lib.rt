@@ -1,7 +1,7 @@
 ghost use mathlib.Core.Path.{_≡_};
 ghost use Prim.Native.Nat.{_/_, _%_, _<_};
 ghost use Rattle.printed_frames.specs.Frames.{refusalFrame, minuteFrame};
-use basic::long;
+use widths::long;
 
 // The byte of a number that has this weight.
 fn byte_of(n: u64, weight: u64) -> u8

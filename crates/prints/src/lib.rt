@@ -5,7 +5,7 @@ ghost use lib.ListN.{length};
 ghost use lib.Seq.{paste};
 ghost use Rattle.frames.specs.Frame.{sum};
 ghost use Rattle.prints.specs.Print.{digitOf, hexOf, checkOf, lineOf};
-use basic::wide;
+use widths::wide;
 
 // The character of a digit.
 fn glyph(d: u8) -> u8

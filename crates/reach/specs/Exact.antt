@@ -4,7 +4,8 @@ use mathlib.Core.Path.{_≡_}
 use mathlib.Core.List.{List}
 use Rattle.theory.specs.Numbers.{EVENTS}
 use Rattle.theory.specs.LoopTest.{through}
-use Rattle.rows.specs.Rows.{Row, Become}
+use Rattle.event_rows.specs.Row.{Row}
+use Rattle.rows.specs.Rows.{Become}
 use Rattle.rows.specs.Exact.{wholeRows, become-exact}
 
 pub closed-exact : (edges r r′ : List Row) → wholeRows edges → Become (λ E. through E EVENTS) edges r → Become (λ E. through E EVENTS) edges r′ → r ≡ r′

@@ -14,9 +14,10 @@ use Rattle.theory.specs.Graph.{Edges}
 use Rattle.theory.specs.LoopTest.{through}
 use Rattle.theory.specs.Laws.Tests.{test, same-or}
 use Rattle.theory.specs.Laws.Reach.{through-start, through-next}
-use Rattle.rows.specs.Rows.{Row, edgesOf, RowIs, RowsAre, linked}
-use Rattle.rows.specs.Laws.Changes.{not-yet, one-more, all-made}
-use Rattle.rows.specs.Laws.Row.{row-same}
+use Rattle.event_rows.specs.Row.{Row, RowIs}
+use Rattle.rows.specs.Rows.{edgesOf, RowsAre, linked}
+use Rattle.event_rows.specs.Laws.Changes.{not-yet, one-more, all-made}
+use Rattle.event_rows.specs.Laws.Row.{row-same}
 use Rattle.rows.specs.Laws.Rows.{rows-same, rows-say, rows-set}
 use Rattle.reach.specs.Reach.{takenOver, via}
 

@@ -11,12 +11,12 @@ fn take_over(rows: &mut Rows, a: u8, k: u8)
     requires { ⌜ (a < EVENTS) × (k < EVENTS) ⌝ }
     ensures { λ _. ⌜ Become (takenOver a k) (now (rows .entry)) (now (rows .exit)) ⌝ }
 {
-    let i = basic::index(a);
-    let j = basic::index(k);
+    let i = widths::index(a);
+    let j = widths::index(k);
     if rows::leads(rows, a, k) {
         let x = rows[i];
         let y = rows[j];
-        let z = rows::joined(x, y);
+        let z = event_rows::joined(x, y);
         rows[i] = z;
     }
 }
@@ -45,7 +45,7 @@ fn go_through(rows: &mut Rows, edges: &Rows, k: u8)
     requires { ⌜ k < EVENTS ⌝ }
     ensures { λ _. ⌜ ((E : Edges) → RowsAre E (now (edges .entry)) → RowsAre (through E k) (now (rows .entry)) → RowsAre (through E (k + 1)) (now (rows .exit))) ⌝ }
 {
-    if rows::some(&edges[basic::index(k)]) {
+    if event_rows::some(&edges[widths::index(k)]) {
         phase(rows, k);
     }
 }

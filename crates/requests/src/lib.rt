@@ -6,9 +6,9 @@ use answers::Name;
 use answers::Refusal;
 use answers::Verdict;
 use basic::both;
-use basic::row_index;
 use limits::of_roles;
 use tables::byte;
+use widths::row_index;
 
 // A request: its event, its priority, and for how many instants later it is.
 pub struct Request {

@@ -3,8 +3,8 @@ ghost use Rattle.frames.specs.Frame.{bytesOf};
 ghost use Rattle.tables.specs.Layout.{byteAt, two};
 ghost use Rattle.row_counts.specs.Counts.{roomFor, countsAgree};
 use basic::both;
-use basic::wide;
 use frames::byte_at;
+use widths::wide;
 
 // TOO MANY is not given for a frame of kind k, after so many rows.
 pub fn has_room(k: u8, periodics: u16, triggers: u16) -> bool

@@ -1,4 +1,4 @@
--- Rows of events, and the array of rows: which events each reaches.
+-- The array of rows, one per event: which events each reaches.
 pub mod Rows
 pub mod Laws
 pub mod Exact

@@ -1,34 +1,18 @@
--- Rows of events: a row, and the array of rows, one per event, as the graph that it holds. `whole` and `reaches` are all that is said of the inside of a row.
+-- The array of rows, one per event, as the graph that it holds.
 -- Assumes nothing.
 use mathlib.Core.Path.{_≡_}
-use mathlib.Core.Bool.{Bool, false, _&&_, _||_}
+use mathlib.Core.Bool.{Bool, _&&_, _||_}
 use mathlib.Core.List.{List, []}
 use Prim.Native.Nat.{ℕ, _<_}
 use lib.Dec.{eqb, ltb}
 use lib.ListN.{length, getD}
 use Rattle.theory.specs.Numbers.{EVENTS}
 use Rattle.theory.specs.Graph.{Edges}
-
--- a truth value for each event
-abbrev pub Row : Type 0
-Row = List Bool
-
--- the row has its truth values, one for each event
-abbrev pub whole : Row → Type 0
-whole row = length row ≡ EVENTS
-
--- the row reaches b, which is an event
-unfoldable pub reaches : Row → ℕ → Bool
-reaches row b = ltb b EVENTS && getD row b false
+use Rattle.event_rows.specs.Row.{Row, reaches, RowIs}
 
 -- the rows as edges: a is an event and its row reaches b
 unfoldable pub edgesOf : List Row → Edges
 edgesOf rows a b = ltb a EVENTS && reaches (getD rows a []) b
-
--- the row holds the events that pass f
-pub record RowIs (f : ℕ → Bool) (row : Row) : Type 0 where
-  pub size : whole row
-  pub says : (b : ℕ) → b < EVENTS → reaches row b ≡ f b
 
 -- the rows hold the graph E
 pub record RowsAre (E : Edges) (rows : List Row) : Type 0 where

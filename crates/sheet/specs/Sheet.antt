@@ -9,19 +9,19 @@ use Rattle.theory.specs.Numbers.{SHEET-BYTES}
 use Rattle.answers.specs.declared.Name.the-variants.{Length}
 use Rattle.text.specs.Lines.{lines}
 use Rattle.tables.specs.Layout.{PERIODIC-TABLE, TRIGGER-TABLE}
-use Rattle.line_acts.specs.Acts.{State, state}
+use Rattle.line_acts.specs.Acts.{Progress, progress}
 use Rattle.walks.specs.Walks.{Going, goes, refused}
 use Rattle.lines.specs.Lines.{reads, fresh}
 use Rattle.readings.specs.declared.Reading.the-variants.{Bad}
-use Rattle.hand_out.specs.Out.{Outcome, outcome, afterLines}
+use Rattle.hand_out.specs.Out.{ReadOutcome, readOutcome, afterLines}
 
 -- the tables that are read into: all zero
-abbrev pub start : State
-start = state fresh (replicate PERIODIC-TABLE 0) (replicate TRIGGER-TABLE 0)
+abbrev pub start : Progress
+start = progress fresh (replicate PERIODIC-TABLE 0) (replicate TRIGGER-TABLE 0)
 
 -- a refusal leaves the lent tables p and t as they came; on success they hold the rows in sheet order and are otherwise zero
-unfoldable pub byLines : Going State → List ℕ → List ℕ → Outcome
-byLines (refused r) p t = outcome (Bad r) p t
+unfoldable pub byLines : Going Progress → List ℕ → List ℕ → ReadOutcome
+byLines (refused r) p t = readOutcome (Bad r) p t
 byLines (goes s) p t = afterLines s p t
 
 -- LENGTH is not given: the sheet is within its limit and the lent tables have their exact lengths
@@ -29,8 +29,8 @@ unfoldable pub lengthsFit : ℕ → ℕ → ℕ → Bool
 lengthsFit sheet p t = leb sheet SHEET-BYTES && (eqb p PERIODIC-TABLE && eqb t TRIGGER-TABLE)
 
 -- THE READING: of a sheet's bytes, with the lent tables as they came
-unfoldable pub reading : List ℕ → List ℕ → List ℕ → Outcome
+unfoldable pub reading : List ℕ → List ℕ → List ℕ → ReadOutcome
 reading sheet p t =
     cond (lengthsFit (length sheet) (length p) (length t))
     (byLines (reads (goes start) (lines sheet)) p t)
-    (outcome (Bad (record { name = Length; place = 0 })) p t)
+    (readOutcome (Bad (record { name = Length; place = 0 })) p t)

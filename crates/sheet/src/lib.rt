@@ -6,7 +6,7 @@ ghost use Rattle.text.specs.Lines.{lines};
 ghost use Rattle.tables.specs.Layout.{PERIODIC-TABLE, TRIGGER-TABLE};
 ghost use Rattle.walks.specs.Walks.{goes};
 ghost use Rattle.lines.specs.Lines.{reads};
-ghost use Rattle.hand_out.specs.Out.{outcome};
+ghost use Rattle.hand_out.specs.Out.{readOutcome};
 ghost use Rattle.sheet.specs.Sheet.{start, byLines, lengthsFit, reading};
 use answers::Name;
 use answers::Refusal;
@@ -17,7 +17,7 @@ use readings::Reading;
 // Reads a sheet that is within its limit into tables that have their lengths.
 fn read_within(sheet: &[u8], periodics: &mut [u8], triggers: &mut [u8]) -> Reading
     requires { ⌜ (length (now sheet) ≤ SHEET-BYTES) × ((length (now periodics) ≡ PERIODIC-TABLE) × (length (now triggers) ≡ TRIGGER-TABLE)) ⌝ }
-    ensures { λ r. ⌜ outcome r (now (periodics .exit)) (now (triggers .exit)) ≡ byLines (reads (goes start) (lines (now (sheet .entry)))) (now (periodics .entry)) (now (triggers .entry)) ⌝ }
+    ensures { λ r. ⌜ readOutcome r (now (periodics .exit)) (now (triggers .exit)) ≡ byLines (reads (goes start) (lines (now (sheet .entry)))) (now (periodics .entry)) (now (triggers .entry)) ⌝ }
 {
     let mut per = [0u8; 2048];
     let mut trg = [0u8; 3328];
@@ -37,7 +37,7 @@ fn lengths_fit(sheet: usize, periodics: usize, triggers: usize) -> bool
 
 // Reads a sheet: the answer, and on OK the tables. After any refusal they are what they were.
 pub fn read_sheet(sheet: &[u8], periodics: &mut [u8], triggers: &mut [u8]) -> Reading
-    ensures { λ r. ⌜ outcome r (now (periodics .exit)) (now (triggers .exit)) ≡ reading (now (sheet .entry)) (now (periodics .entry)) (now (triggers .entry)) ⌝ }
+    ensures { λ r. ⌜ readOutcome r (now (periodics .exit)) (now (triggers .exit)) ≡ reading (now (sheet .entry)) (now (periodics .entry)) (now (triggers .entry)) ⌝ }
 {
     if lengths_fit(sheet.len(), periodics.len(), triggers.len()) {
         return read_within(sheet, periodics, triggers);

@@ -3,8 +3,8 @@ ghost use Prim.Native.Nat.{_+_, _*_, _≤_};
 ghost use lib.ListN.{length};
 ghost use lib.Seq.{paste};
 ghost use Rattle.tables.specs.Layout.{TRIGGER-BYTES, byteAt};
-use basic::index;
-use basic::row_index;
+use widths::index;
+use widths::row_index;
 
 // The byte at i; 0 past the end.
 pub fn byte(table: &[u8], i: usize) -> u8

@@ -9,17 +9,18 @@ use lib.Dec.{eqb}
 use borrow.Author.Tests.{eq-eqb, ltb-true}
 use Rattle.theory.specs.Numbers.{REQUESTS}
 use Rattle.theory.specs.Laws.Tests.{test}
+use Rattle.answers.specs.declared.Name.the-variants.{Request}
 use Rattle.answers.specs.declared.Refusal.{Refusal}
 use Rattle.answers.specs.declared.Verdict.the-variants.{Pass}
-use Rattle.answers.specs.Laws.{cond-pass}
+use Rattle.answers.specs.Laws.{each-passes}
 use Rattle.text.specs.Framed.{framed}
-use Rattle.frames.specs.Frame.{bytesOf, checked}
+use Rattle.frames.specs.Frame.{bytesOf}
 use Rattle.walks.specs.Walks.{Going, goes, refused}
 use Rattle.walks.specs.Laws.{verdict-goes}
 use Rattle.kinds.specs.Kinds.{kind}
 use Rattle.tape_frames.specs.Frame.{ASK, instantOf}
 use Rattle.tape_tests.specs.declared.Heard.{Heard}
-use Rattle.tape_tests.specs.Tape.{ofTape, roomFor, inTime, askFits, inOrder, judgeFrame, judgeTape}
+use Rattle.tape_tests.specs.Tape.{ofTape, roomFor, inTime, askFits, tapeTests, judgeTape}
 use Rattle.tape.specs.declared.Tape.{Tape}
 use Rattle.tape.specs.declared.Tape.the-variants.{Goes, Refused}
 use Rattle.tape.specs.Tape.{heardAfter, tapeStep}
@@ -47,15 +48,10 @@ pub record Passed (roles : ℕ) (s : Heard) (l : List ℕ) : Type 0 where
   pub fit : askFits roles (bytesOf l) ≡ true
 
 pub passes : (place roles : ℕ) (s : Heard) (l : List ℕ) → judgeTape place roles s l ≡ Pass → Passed roles s l
-unfolding judgeTape judgeFrame inOrder
+unfolding judgeTape tapeTests
 passes place roles s l e =
-    let a = cond-pass (framed l) _ _ _ e in
-    let b = cond-pass (checked (bytesOf l)) _ _ _ (a .1) in
-    let c = cond-pass (ofTape s (bytesOf l)) _ _ _ (b .1) in
-    let d = cond-pass (roomFor s (bytesOf l)) _ _ _ (c .1) in
-    let f = cond-pass (inTime s (bytesOf l)) _ _ _ (d .1) in
-    let g = cond-pass (askFits roles (bytesOf l)) _ _ _ (f .1) in
-    record { is-framed = a .0; of-tape = c .0; room = d .0; in-time = f .0; fit = g .0 }
+    let a = each-passes (tapeTests roles s l) Request place e in
+    record { is-framed = a .framed; of-tape = a .kind; room = a .room; in-time = a .field; fit = a .last }
 
 -- room for a request more of the same instant
 pub room-says : (s : Heard) (f : List ℕ) → roomFor s f ≡ true → kind f ≡ ASK → instantOf f ≡ s .instant → s .row < REQUESTS

@@ -2,9 +2,9 @@ ghost use mathlib.Core.Path.{_≡_};
 ghost use Rattle.frames.specs.Frame.{bytesOf};
 ghost use Rattle.requests.specs.Asked.{requestOf};
 ghost use Rattle.tape_frames.specs.Frame.{instantOf, askedIn};
-use basic::wide;
 use frames::byte_at;
 use requests::Request;
+use widths::wide;
 
 // The instant that a line's frame says: a request's, or the last one.
 pub fn instant_of(line: &[u8]) -> u32

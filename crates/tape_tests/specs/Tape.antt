@@ -6,10 +6,10 @@ use Prim.Native.Nat.{ℕ}
 use lib.Dec.{ltb, leb, eqb}
 use lib.ListN.{length}
 use Rattle.theory.specs.Numbers.{REQUESTS}
-use Rattle.answers.specs.declared.Name.the-variants.{Frame, Check, Kind, Field, TooMany, Request}
+use Rattle.answers.specs.declared.Name.the-variants.{Request}
 use Rattle.answers.specs.declared.Verdict.{Verdict}
-use Rattle.answers.specs.declared.Verdict.the-variants.{Pass}
-use Rattle.answers.specs.Answers.{refuse}
+use Rattle.answers.specs.declared.Tests.{Tests}
+use Rattle.answers.specs.Answers.{inOrder}
 use Rattle.text.specs.Framed.{framed}
 use Rattle.frames.specs.Frame.{bytesOf, checked}
 use Rattle.kinds.specs.Kinds.{kind}
@@ -41,14 +41,11 @@ inTime s f = cond (eqb (kind f) TAPE-END) (leb (s .instant) (instantOf f) && leb
 unfoldable pub askFits : ℕ → List ℕ → Bool
 askFits roles f = cond (eqb (kind f) ASK) (fits roles (askedIn f)) true
 
--- the first test that fails gives its refusal: KIND, TOO MANY, FIELD, REQUEST
-unfoldable pub inOrder : ℕ → Bool → Bool → Bool → Bool → Verdict
-inOrder place isKind isRoom isField isRequest =
-    cond isKind (cond isRoom (cond isField (cond isRequest Pass (refuse Request place)) (refuse Field place)) (refuse TooMany place)) (refuse Kind place)
+-- whether each test passes, of a line and of the frame that it holds
+unfoldable pub tapeTests : ℕ → Heard → List ℕ → Tests
+tapeTests roles s l =
+    let f : List ℕ = bytesOf l in
+    record { framed = framed l; checked = checked f; kind = ofTape s f; room = roomFor s f; field = inTime s f; last = askFits roles f }
 
-unfoldable pub judgeFrame : ℕ → ℕ → Heard → List ℕ → Verdict
-judgeFrame place roles s f = inOrder place (ofTape s f) (roomFor s f) (inTime s f) (askFits roles f)
-
--- FRAME, CHECK, then the tests of the frame
 unfoldable pub judgeTape : ℕ → ℕ → Heard → List ℕ → Verdict
-judgeTape place roles s l = cond (framed l) (cond (checked (bytesOf l)) (judgeFrame place roles s (bytesOf l)) (refuse Check place)) (refuse Frame place)
+judgeTape place roles s l = inOrder (tapeTests roles s l) Request place

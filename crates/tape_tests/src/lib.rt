@@ -1,9 +1,9 @@
 ghost use mathlib.Core.Path.{_≡_};
 ghost use Rattle.frames.specs.Frame.{bytesOf};
 ghost use Rattle.tape_frames.specs.Frame.{instantOf};
-ghost use Rattle.tape_tests.specs.Tape.{tapeSize, ofTape, roomFor, inTime, askFits, inOrder, judgeFrame, judgeTape};
+ghost use Rattle.tape_tests.specs.Tape.{tapeSize, ofTape, roomFor, inTime, askFits, judgeTape};
 use answers::Name;
-use answers::Refusal;
+use answers::Tests;
 use answers::Verdict;
 use basic::both;
 use basic::either;
@@ -74,66 +74,24 @@ fn ask_fits(line: &[u8], roles: u8) -> bool
     true
 }
 
-// The first test that fails gives its refusal: KIND, TOO MANY, FIELD, REQUEST.
-fn in_order(place: u32, kind: bool, room: bool, field: bool, request: bool) -> Verdict
-    ensures { λ r. ⌜ r ≡ inOrder place kind room field request ⌝ }
-{
-    if kind {
-        if room {
-            if field {
-                if request {
-                    return Verdict::Pass;
-                }
-                return Verdict::Refuse(Refusal {
-                    name: Name::Request,
-                    place: place,
-                });
-            }
-            return Verdict::Refuse(Refusal {
-                name: Name::Field,
-                place: place,
-            });
-        }
-        return Verdict::Refuse(Refusal {
-            name: Name::TooMany,
-            place: place,
-        });
-    }
-    Verdict::Refuse(Refusal {
-        name: Name::Kind,
-        place: place,
-    })
-}
-
-// KIND, TOO MANY, FIELD, REQUEST of a line's frame.
-fn frame_judged(line: &[u8], roles: u8, s: Heard, place: u32) -> Verdict
-    ensures { λ r. ⌜ r ≡ judgeFrame place roles s (bytesOf (now (line .entry))) ⌝ }
-{
-    let t = instant_of(line);
-    in_order(
-        place,
-        of_tape(line, s),
-        has_room(line, t, s),
-        in_time(line, t, s),
-        ask_fits(line, roles),
-    )
-}
-
-// The tests of a line of a tape, in order.
+// The tests of a line of a tape, in order: FRAME, CHECK, KIND, TOO MANY, FIELD, REQUEST.
 pub fn tape_judged(line: &[u8], roles: u8, s: Heard, place: u32) -> Verdict
     ensures { λ r. ⌜ r ≡ judgeTape place roles s (now (line .entry)) ⌝ }
 {
-    if text::is_framed(line) {
-        if frames::is_checked(line) {
-            return frame_judged(line, roles, s, place);
-        }
-        return Verdict::Refuse(Refusal {
-            name: Name::Check,
-            place: place,
-        });
-    }
-    Verdict::Refuse(Refusal {
-        name: Name::Frame,
-        place: place,
-    })
+    let t = instant_of(line);
+    let framed = text::is_framed(line);
+    let checked = frames::is_checked(line);
+    let kind = of_tape(line, s);
+    let room = has_room(line, t, s);
+    let field = in_time(line, t, s);
+    let request = ask_fits(line, roles);
+    let tests = Tests {
+        framed: framed,
+        checked: checked,
+        kind: kind,
+        room: room,
+        field: field,
+        last: request,
+    };
+    answers::in_order(tests, Name::Request, place)
 }

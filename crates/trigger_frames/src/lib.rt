@@ -2,8 +2,8 @@ ghost use mathlib.Core.Path.{_≡_};
 ghost use Prim.Native.Nat.{_<_};
 ghost use Rattle.frames.specs.Frame.{bytesOf};
 ghost use Rattle.trigger_frames.specs.Row.{placed, eventPlace, conditionPlace, lastPlace, triggerRow};
-use basic::index;
 use frames::byte_at;
+use widths::index;
 
 // The byte b at place j of n, and zero past n.
 fn placed_at(j: usize, n: usize, b: u8) -> u8

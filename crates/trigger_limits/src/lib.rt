@@ -4,10 +4,10 @@ ghost use Rattle.theory.specs.Below.{allBelow};
 ghost use Rattle.theory.specs.Sheet.{ofRoles, triggerFits};
 ghost use Rattle.tables.specs.Layout.{byteAt, triggerFrom, triggerAt};
 use basic::both;
-use basic::index;
-use basic::row_index;
 use limits::of_roles;
 use tables::byte;
+use widths::index;
+use widths::row_index;
 
 // The n bytes from `at` on are events or conditions of the roles.
 fn all_of_roles(table: &[u8], at: usize, n: u8, roles: u8) -> bool

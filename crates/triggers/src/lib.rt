@@ -2,11 +2,11 @@ ghost use mathlib.Core.Path.{_≡_};
 ghost use Prim.Native.Nat.{ℕ};
 ghost use Rattle.theory.specs.Graph.{counts};
 ghost use Rattle.tables.specs.Layout.{triggerAt, triggersOf};
-use basic::index;
-use basic::row_index;
 use tables::DELAY;
 use tables::byte;
 use tables::trigger_byte;
+use widths::index;
+use widths::row_index;
 
 // Body event j of trigger i.
 pub fn event(triggers: &[u8], i: u16, j: u8) -> u8

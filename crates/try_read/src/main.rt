@@ -3,11 +3,11 @@
 ghost use Prim.Native.Nat.{_≤_};
 use answers::Answer;
 use basic::both;
-use basic::index;
-use basic::row_index;
 use readings::Read;
 use readings::Reading;
 use tables::byte;
+use widths::index;
+use widths::row_index;
 
 // The numbers of a head line: the length of the sheet, those of both tables in rows, and the fill.
 struct Case {

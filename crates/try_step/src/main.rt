@@ -4,11 +4,11 @@ ghost use Prim.Native.Nat.{_≤_};
 use answers::Answer;
 use answers::Verdict;
 use basic::both;
-use basic::index;
 use basic::one;
-use basic::row_index;
 use masks::number;
 use tables::byte;
+use widths::index;
+use widths::row_index;
 
 // The lengths of what is lent: the tables in rows, the buffers in numbers.
 struct Lengths {

@@ -7,14 +7,14 @@ ghost use Rattle.theory.specs.Laws.Stage.{Turn};
 ghost use Rattle.tables.specs.Buffers.{bit, eventsOf};
 ghost use Rattle.keys.specs.Keys.{Chained, Linked};
 ghost use Rattle.turns.specs.Turns.{Keyed, TurnAt, WalkedAt, SettledAt};
-use basic::index;
-use basic::row_index;
 use bodies::met;
 use masks::join;
 use masks::number;
 use tables::HEAD;
 use tables::PRIORITY;
 use tables::trigger_byte;
+use widths::index;
+use widths::row_index;
 
 // The priority p is in the mask.
 fn has(mask: u16, p: u8) -> bool

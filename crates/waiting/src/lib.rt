@@ -2,10 +2,10 @@ ghost use mathlib.Core.Path.{_≡_};
 ghost use Prim.Native.Nat.{_+_};
 ghost use lib.ListN.{set};
 ghost use Rattle.waiting.specs.Waiting.{placeOf, copied, cleared};
-use basic::index;
-use basic::long;
-use basic::wide;
 use masks::number;
+use widths::index;
+use widths::long;
+use widths::wide;
 
 // The buffer's number `at` becomes v; past the end nothing is written.
 fn store(buffer: &mut [u16], at: usize, v: u16)

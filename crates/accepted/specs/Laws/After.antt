@@ -11,9 +11,9 @@ use Rattle.trigger_frames.specs.Row.{triggerRow}
 use Rattle.trigger_frames.specs.Laws.{length-trigger}
 use Rattle.kinds.specs.declared.Stage.the-variants.{Rows, Ended}
 use Rattle.kinds.specs.Kinds.{HEADER, PERIODIC, TRIGGER, END, kind}
-use Rattle.line_acts.specs.Acts.{seenAfter, tableAfter, State, state, after}
+use Rattle.line_acts.specs.Acts.{seenAfter, tableAfter, Progress, progress, after}
 
-module _ (s : State) (f : List ℕ) where
+module _ (s : Progress) (f : List ℕ) where
   abbrev n : ℕ
   n = s .seen .periodics
 
@@ -22,22 +22,22 @@ module _ (s : State) (f : List ℕ) where
 
   -- the tables with the frame's row
   abbrev periodicMore : List ℕ
-  periodicMore = paste (s .periodic) (PERIODIC-BYTES * n) (periodicRow f) PERIODIC-BYTES
+  periodicMore = paste (s .periodics) (PERIODIC-BYTES * n) (periodicRow f) PERIODIC-BYTES
 
   abbrev triggerMore : List ℕ
   triggerMore = paste (s .triggers) (TRIGGER-BYTES * m) (triggerRow f) TRIGGER-BYTES
 
-  abbrev pub withHeader : State
-  withHeader = state (record { line = s .seen .line + 1; stage = Rows; roles = byteAt f 2; periodics = n; triggers = m }) (s .periodic) (s .triggers)
+  abbrev pub withHeader : Progress
+  withHeader = progress (record { line = s .seen .line + 1; stage = Rows; roles = byteAt f 2; periodics = n; triggers = m }) (s .periodics) (s .triggers)
 
-  abbrev pub withPeriodic : State
-  withPeriodic = state (record { line = s .seen .line + 1; stage = Rows; roles = s .seen .roles; periodics = n + 1; triggers = m }) periodicMore (s .triggers)
+  abbrev pub withPeriodic : Progress
+  withPeriodic = progress (record { line = s .seen .line + 1; stage = Rows; roles = s .seen .roles; periodics = n + 1; triggers = m }) periodicMore (s .triggers)
 
-  abbrev pub withTrigger : State
-  withTrigger = state (record { line = s .seen .line + 1; stage = Rows; roles = s .seen .roles; periodics = n; triggers = m + 1 }) (s .periodic) triggerMore
+  abbrev pub withTrigger : Progress
+  withTrigger = progress (record { line = s .seen .line + 1; stage = Rows; roles = s .seen .roles; periodics = n; triggers = m + 1 }) (s .periodics) triggerMore
 
-  abbrev pub withEnd : State
-  withEnd = state (record { line = s .seen .line + 1; stage = Ended; roles = s .seen .roles; periodics = n; triggers = m }) (s .periodic) (s .triggers)
+  abbrev pub withEnd : Progress
+  withEnd = progress (record { line = s .seen .line + 1; stage = Ended; roles = s .seen .roles; periodics = n; triggers = m }) (s .periodics) (s .triggers)
 
   pub after-header : kind f ≡ HEADER → after s f ≡ withHeader
   unfolding after seenAfter tableAfter

@@ -12,13 +12,13 @@ use Rattle.kinds.specs.declared.Stage.{Stage}
 use Rattle.kinds.specs.declared.Stage.the-variants.{Start, Rows, Ended}
 use Rattle.kinds.specs.Kinds.{HEADER, PERIODIC, TRIGGER, END, kind, mayStand}
 use Rattle.row_counts.specs.Laws.{room-periodics, room-triggers}
-use Rattle.line_acts.specs.Acts.{State, after}
+use Rattle.line_acts.specs.Acts.{Progress, after}
 use Rattle.line_tests.specs.Laws.{Passed}
 use Rattle.accepted.specs.Laws.Fields.{header-says, periodic-fits, trigger-fits}
 use Rattle.accepted.specs.Laws.After.{after-header, after-periodic, after-trigger, after-end}
 use Rattle.accepted.specs.Laws.SoFar.{InOrder, SoFar, header-keeps, periodic-keeps, trigger-keeps, end-keeps}
 
-module _ (s : State) (f : List ℕ) (x : SoFar s) (p : Passed (s .seen) f) where
+module _ (s : Progress) (f : List ℕ) (x : SoFar s) (p : Passed (s .seen) f) where
   abbrev k : ℕ
   k = kind f
 

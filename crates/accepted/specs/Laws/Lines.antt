@@ -11,42 +11,42 @@ use Rattle.walks.specs.Laws.{no-goes, walks-first}
 use Rattle.kinds.specs.declared.Stage.{Stage}
 use Rattle.kinds.specs.declared.Stage.the-variants.{Start, Rows, Ended}
 use Rattle.line_tests.specs.Laws.{Passed}
-use Rattle.line_acts.specs.Acts.{State, after}
+use Rattle.line_acts.specs.Acts.{Progress, after}
 use Rattle.lines.specs.Lines.{atEnd, sheetReader, reads}
 use Rattle.lines.specs.Laws.Lines.{took-line}
 use Rattle.hand_out.specs.Out.{sheetRead}
 use Rattle.accepted.specs.Laws.SoFar.{InOrder, SoFar}
 use Rattle.accepted.specs.Laws.Kept.{kept}
 
-module _ (z : State) where
+module _ (z : Progress) where
   -- from here on the lines go on to their end
-  abbrev GoesOn : State → Lines → Type 0
+  abbrev GoesOn : Progress → Lines → Type 0
   GoesOn s ls = reads (goes s) ls ≡ goes z
 
   -- the first of them passed, and the others go on
-  record First (s : State) (l : List ℕ) (ls : Lines) : Type 0 where
+  record First (s : Progress) (l : List ℕ) (ls : Lines) : Type 0 where
     passed : Passed (s .seen) (bytesOf l)
     others : GoesOn (after s (bytesOf l)) ls
 
-  first-of : (s : State) (l : List ℕ) (ls : Lines) → GoesOn s (line l ls) → First s l ls
+  first-of : (s : Progress) (l : List ℕ) (ls : Lines) → GoesOn s (line l ls) → First s l ls
   first-of s l ls h =
       let x = walks-first sheetReader s z l ls h in
       let t = took-line s (x .0) l (x .1) in
-      record { passed = t .0; others = subst (λ (y : State). GoesOn y ls) (sym (t .1)) (x .2) }
+      record { passed = t .0; others = subst (λ (y : Progress). GoesOn y ls) (sym (t .1)) (x .2) }
 
   -- after the last line the end frame was there
-  at-end : (g : Stage) (s : State) → atEnd g s ≡ goes z → InOrder g s → (s ≡ z) × GoodOrder (sheetRead s)
+  at-end : (g : Stage) (s : Progress) → atEnd g s ≡ goes z → InOrder g s → (s ≡ z) × GoodOrder (sheetRead s)
   unfolding atEnd
   at-end Start s h g = no-goes _ z h
   at-end Rows s h g = no-goes _ z h
   at-end Ended s h g = (cc, g)
 
   -- THE LAW
-  pub read-so-far : (s : State) (ls : Lines) → SoFar s → GoesOn s ls → SoFar z × GoodOrder (sheetRead z)
+  pub read-so-far : (s : Progress) (ls : Lines) → SoFar s → GoesOn s ls → SoFar z × GoodOrder (sheetRead z)
   unfolding walks
   read-so-far s none x h =
       let e = at-end (s .seen .stage) s h (x .in-order) in
-      (subst SoFar (e .0) x, subst (λ (y : State). GoodOrder (sheetRead y)) (e .0) (e .1))
+      (subst SoFar (e .0) x, subst (λ (y : Progress). GoodOrder (sheetRead y)) (e .0) (e .1))
   read-so-far s (endless l) x h = no-goes _ z h
   read-so-far s (line l ls) x h =
       let y : First s l ls = first-of s l ls h in

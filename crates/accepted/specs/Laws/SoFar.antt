@@ -16,25 +16,25 @@ use Rattle.trigger_frames.specs.Row.{triggerRow}
 use Rattle.trigger_frames.specs.Laws.{length-trigger}
 use Rattle.kinds.specs.declared.Stage.{Stage}
 use Rattle.kinds.specs.declared.Stage.the-variants.{Start, Rows, Ended}
-use Rattle.line_acts.specs.Acts.{State}
+use Rattle.line_acts.specs.Acts.{Progress}
 use Rattle.hand_out.specs.Out.{sheetRead}
 use Rattle.accepted.specs.Laws.Tables.{periodics-more, triggers-more}
 use Rattle.accepted.specs.Laws.After.{withHeader, withPeriodic, withTrigger, withEnd}
 
 -- before the header no row was read; after it the sheet is in good order
-abbrev pub InOrder : Stage → State → Type 0
+abbrev pub InOrder : Stage → Progress → Type 0
 InOrder Start s = (s .seen .periodics ≡ 0) × (s .seen .triggers ≡ 0)
 InOrder Rows s = GoodOrder (sheetRead s)
 InOrder Ended s = GoodOrder (sheetRead s)
 
-pub record SoFar (s : State) : Type 0 where
-  pub periodic-bytes : length (s .periodic) ≡ PERIODIC-TABLE
+pub record SoFar (s : Progress) : Type 0 where
+  pub periodic-bytes : length (s .periodics) ≡ PERIODIC-TABLE
   pub trigger-bytes : length (s .triggers) ≡ TRIGGER-TABLE
   pub in-order : InOrder (s .seen .stage) s
 
 -- ---- each kind of frame keeps it so
 
-module _ (s : State) (f : List ℕ) (x : SoFar s) where
+module _ (s : Progress) (f : List ℕ) (x : SoFar s) where
   pub header-keeps : InOrder Start s → (1 ≤ byteAt f 2) × (byteAt f 2 ≤ ROLES) → SoFar (withHeader s f)
   unfolding sheetOf
   header-keeps z r =
@@ -58,10 +58,10 @@ module _ (s : State) (f : List ℕ) (x : SoFar s) where
     periodic-keeps l h =
         let n : ℕ = s .seen .periodics in
         let row : List ℕ = periodicRow f in
-        let whole : length (s .periodic) ≡ PERIODIC-TABLE = x .periodic-bytes in
+        let whole : length (s .periodics) ≡ PERIODIC-TABLE = x .periodic-bytes in
         let wide : length row ≡ PERIODIC-BYTES = length-periodic f in
         record {
-          periodic-bytes = length-paste (s .periodic) (PERIODIC-BYTES * n) row PERIODIC-BYTES (omega arith) (omega arith) ∙ whole;
+          periodic-bytes = length-paste (s .periodics) (PERIODIC-BYTES * n) row PERIODIC-BYTES (omega arith) (omega arith) ∙ whole;
           trigger-bytes = x .trigger-bytes;
           in-order =
               record {
@@ -69,7 +69,7 @@ module _ (s : State) (f : List ℕ) (x : SoFar s) where
                 few-roles = g .few-roles;
                 few-periodics = omega arith;
                 few-triggers = g .few-triggers;
-                periodics = periodics-more (s .seen .roles) n (s .periodic) row wide whole l (g .periodics) h;
+                periodics = periodics-more (s .seen .roles) n (s .periodics) row wide whole l (g .periodics) h;
                 triggers = g .triggers;
               };
         }

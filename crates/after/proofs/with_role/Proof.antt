@@ -2,7 +2,7 @@
 -- Assumes nothing.
 use mathlib.Core.Path.{refl}
 use borrow.Author.Tests.{lt-ltb, le-ltb}
-use Rattle.masks.specs.Masks.{withRole}
+use Rattle.after.specs.After.{withRole}
 use Rattle.masks.specs.Laws.Bits.{shl-one}
 use borrow.Author.Needs.{needs}
 use Rattle.after.proofs.with_role.Statement.{statement}

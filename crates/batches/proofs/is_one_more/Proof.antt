@@ -1,5 +1,6 @@
 -- `batches::is_one_more` meets its contract: the tests are the definition's.
 -- Assumes nothing.
+use mathlib.Core.Path.{refl}
 use Rattle.batches.specs.Batch.{isOf}
 use borrow.Author.Needs.{needs}
 use Rattle.batches.proofs.is_one_more.Statement.{statement}
@@ -19,7 +20,7 @@ both-requires-2 c κs = search needs
 
 returns : tie.Need-returns
 unfolding isOf
-returns c = cc
+returns c = rw (c .both2 .ensures, c .before .both .ensures, c .before .before .instant-of .ensures, c .before .before .before .byte-at .ensures) refl
 
 pub is-one-more-spec : {M : Type 1} → statement M
 is-one-more-spec =

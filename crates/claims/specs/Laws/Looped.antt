@@ -8,6 +8,7 @@ use Rattle.theory.specs.Events.{conf}
 use Rattle.theory.specs.Sheet.{triggerFits}
 use Rattle.theory.specs.Graph.{counts, node, drawn, here, LoopAt}
 use Rattle.answers.specs.declared.Name.the-variants.{Loop}
+use Rattle.answers.specs.Answers.{inOrder}
 use Rattle.tables.specs.Layout.{triggerFrom, sheetOf}
 use Rattle.text.specs.Lines.{lines}
 use Rattle.text.specs.Framed.{isDigit, framed}
@@ -16,42 +17,42 @@ use Rattle.trigger_frames.specs.Row.{placed, eventPlace, conditionPlace, lastPl
 use Rattle.kinds.specs.Kinds.{sizeOf, mayStand}
 use Rattle.row_counts.specs.Counts.{roomFor, countsAgree}
 use Rattle.fields.specs.Fields.{headerFits, frameFits}
-use Rattle.line_tests.specs.Judge.{inOrder, judgeFrame, judgeLine}
-use Rattle.line_acts.specs.Acts.{State, seenAfter, tableAfter, after}
+use Rattle.line_tests.specs.Judge.{lineTests, judgeLine}
+use Rattle.line_acts.specs.Acts.{Progress, seenAfter, tableAfter, after}
 use Rattle.lines.specs.Line.{lineStep}
 use Rattle.walks.specs.Walks.{Going, goes, refused, byVerdict, walks}
 use Rattle.lines.specs.Lines.{atEnd, reads}
 use Rattle.readings.specs.declared.Reading.the-variants.{Bad}
-use Rattle.hand_out.specs.Out.{outcome, sheetRead}
+use Rattle.hand_out.specs.Out.{readOutcome, sheetRead}
 use Rattle.sheet.specs.Sheet.{start, lengthsFit, reading}
 use Rattle.claims.specs.Words.{ReadsInOrder, noPeriodics, noTriggers, looped}
 use Rattle.claims.specs.Laws.Reader.{reader-loops}
 
 -- it goes on to its end
-abbrev goes-on : Going State → Bool
+abbrev goes-on : Going Progress → Bool
 goes-on (goes s) = true
 goes-on (refused r) = false
 
 -- to this
-abbrev end : Going State → State
+abbrev end : Going Progress → Progress
 end (goes s) = s
 end (refused r) = start
 
-to-end : (x : Going State) → goes-on x ≡ true → x ≡ goes (end x)
+to-end : (x : Going Progress) → goes-on x ≡ true → x ≡ goes (end x)
 to-end (goes s) h = refl
 to-end (refused r) h = absurd (false≢true h)
 
-abbrev found : State
+abbrev found : Progress
 found = end (reads (goes start) (lines looped))
 
 in-order : ReadsInOrder looped noPeriodics noTriggers found
 unfolding anyBelow allBelow triggerFits triggerFrom isDigit value framed checked sizeOf mayStand placed eventPlace conditionPlace lastPlace triggerRow headerFits frameFits roomFor countsAgree
-    inOrder judgeFrame judgeLine seenAfter tableAfter after byVerdict lineStep atEnd walks lengthsFit
+    inOrder lineTests judgeLine seenAfter tableAfter after byVerdict lineStep atEnd walks lengthsFit
 in-order = record { lengths = refl; to-its-end = to-end (reads (goes start) (lines looped)) refl }
 
 has-loop : LoopAt (sheetRead found) 0
 unfolding anyBelow allBelow triggerFits triggerFrom sheetOf isDigit value framed checked sizeOf mayStand placed eventPlace conditionPlace lastPlace triggerRow headerFits frameFits roomFor countsAgree
-    inOrder judgeFrame judgeLine seenAfter tableAfter after byVerdict lineStep atEnd walks conf counts node drawn
+    inOrder lineTests judgeLine seenAfter tableAfter after byVerdict lineStep atEnd walks conf counts node drawn
 has-loop =
     record {
       from = 0;
@@ -63,5 +64,5 @@ has-loop =
       is-first = λ a b x y c. omega arith;
     }
 
-pub not-all-passed : reading looped noPeriodics noTriggers ≡ outcome (Bad (record { name = Loop; place = 0 })) noPeriodics noTriggers
+pub not-all-passed : reading looped noPeriodics noTriggers ≡ readOutcome (Bad (record { name = Loop; place = 0 })) noPeriodics noTriggers
 not-all-passed = reader-loops looped noPeriodics noTriggers 0 .1 (found, in-order, has-loop)

@@ -3,7 +3,7 @@
 -- Assumes nothing.
 use mathlib.Core.Path.{_≡_, refl, sym, ap, _∙_, subst}
 use mathlib.Core.Logic.{_⊎_, inl, inr, ⊎-elim, _↔_}
-use mathlib.Core.Bool.{Bool, true, false, cond, _&&_}
+use mathlib.Core.Bool.{Bool, true, false, cond}
 use mathlib.Core.List.{List}
 use Prim.Native.Nat.{ℕ, _+_, _<_}
 use native.Mathlib.Omega.{arith}
@@ -20,27 +20,23 @@ use Rattle.answers.specs.declared.Name.the-variants.{Length, Frame, Check, Kind
 use Rattle.answers.specs.declared.Refusal.{Refusal}
 use Rattle.answers.specs.declared.Verdict.{Verdict}
 use Rattle.answers.specs.declared.Verdict.the-variants.{Pass, Refuse}
-use Rattle.answers.specs.Answers.{numberOf, answered, refuse}
+use Rattle.answers.specs.declared.Tests.{Tests}
+use Rattle.answers.specs.Answers.{numberOf, answered, refuse, inOrder}
 use Rattle.text.specs.Lines.{Lines, none, endless, line, lines}
-use Rattle.text.specs.Framed.{framed}
-use Rattle.frames.specs.Frame.{bytesOf, checked}
-use Rattle.tables.specs.Layout.{byteAt, two}
+use Rattle.frames.specs.Frame.{bytesOf}
 use Rattle.walks.specs.Walks.{Going, goes, refused, byVerdict, walks}
 use Rattle.kinds.specs.declared.Stage.{Stage}
 use Rattle.kinds.specs.declared.Stage.the-variants.{Start, Rows, Ended}
-use Rattle.kinds.specs.Kinds.{kind, sized, mayStand}
-use Rattle.row_counts.specs.Counts.{roomFor, countsAgree}
-use Rattle.fields.specs.Fields.{frameFits}
 use Rattle.line_tests.specs.declared.Seen.{Seen}
-use Rattle.line_tests.specs.Judge.{inOrder, judgeFrame, judgeLine}
-use Rattle.line_acts.specs.Acts.{State, after}
+use Rattle.line_tests.specs.Judge.{lineTests, judgeLine}
+use Rattle.line_acts.specs.Acts.{Progress, after}
 use Rattle.lines.specs.Line.{lineStep}
 use Rattle.lines.specs.Lines.{atEnd, reads}
 use Rattle.readings.specs.declared.Read.{Read}
 use Rattle.readings.specs.declared.Reading.{Reading}
 use Rattle.readings.specs.declared.Reading.the-variants.{Good, Bad}
 use Rattle.readings.specs.Readings.{verdictOf}
-use Rattle.hand_out.specs.Out.{Outcome, outcome, sheetRead, handed, byLoop, afterLines}
+use Rattle.hand_out.specs.Out.{ReadOutcome, readOutcome, sheetRead, handed, byLoop, afterLines}
 use Rattle.sheet.specs.Sheet.{start, byLines, lengthsFit, reading}
 use Rattle.accepted.specs.Accepted.{start-so-far}
 use Rattle.accepted.specs.Laws.Lines.{read-so-far}
@@ -58,15 +54,15 @@ test-not true v name place h n = h
 test-not false v name place h n = n
 
 line-not : (place : ℕ) (s : Seen) (l : List ℕ) → NotLoop (judgeLine place s l)
-unfolding judgeLine judgeFrame inOrder
+unfolding judgeLine inOrder
 line-not place s l =
-    let f : List ℕ = bytesOf l in
-    test-not (framed l) _ Frame place
-    (test-not (checked f) _ Check place
-    (test-not (sized f && mayStand (s .stage) (kind f)) _ Kind place
-    (test-not (roomFor (kind f) (s .periodics) (s .triggers)) _ TooMany place
-    (test-not (frameFits (kind f) (s .roles) f) _ Field place
-    (test-not (countsAgree (kind f) (byteAt f 1) (two f 2) (s .periodics) (s .triggers)) Pass Count place (λ e. omega (arith, e)) (λ e. omega (arith, e)))
+    let t : Tests = lineTests s l in
+    test-not (t .framed) _ Frame place
+    (test-not (t .checked) _ Check place
+    (test-not (t .kind) _ Kind place
+    (test-not (t .room) _ TooMany place
+    (test-not (t .field) _ Field place
+    (test-not (t .last) Pass Count place (λ e. omega (arith, e)) (λ e. omega (arith, e)))
     (λ e. omega (arith, e)))
     (λ e. omega (arith, e)))
     (λ e. omega (arith, e)))
@@ -74,22 +70,22 @@ line-not place s l =
     (λ e. omega (arith, e))
 
 -- what goes on, or its refusal, as a verdict
-abbrev verdictIn : Going State → Verdict
+abbrev verdictIn : Going Progress → Verdict
 verdictIn (goes s) = Pass
 verdictIn (refused r) = Refuse r
 
-by-verdict : (v : Verdict) (made : State) → NotLoop v → NotLoop (verdictIn (byVerdict v made))
+by-verdict : (v : Verdict) (made : Progress) → NotLoop v → NotLoop (verdictIn (byVerdict v made))
 unfolding byVerdict
 by-verdict Pass made h = h
 by-verdict (Refuse r) made h = h
 
-end-not : (g : Stage) (s : State) → NotLoop (verdictIn (atEnd g s))
+end-not : (g : Stage) (s : Progress) → NotLoop (verdictIn (atEnd g s))
 unfolding atEnd
 end-not Start s e = omega (arith, e)
 end-not Rows s e = omega (arith, e)
 end-not Ended s e = omega (arith, e)
 
-reads-not : (x : Going State) (ls : Lines) → NotLoop (verdictIn x) → NotLoop (verdictIn (reads x ls))
+reads-not : (x : Going Progress) (ls : Lines) → NotLoop (verdictIn x) → NotLoop (verdictIn (reads x ls))
 unfolding walks lineStep
 reads-not (refused r) none h = h
 reads-not (refused r) (endless l) h = h
@@ -101,26 +97,26 @@ reads-not (goes s) (line l ls) h = reads-not (lineStep s l) ls (by-verdict (judg
 -- ---- a sheet reads in good order, or is refused for something else
 
 -- the number of a reader's answer
-abbrev numberIn : Outcome → ℕ
+abbrev numberIn : ReadOutcome → ℕ
 numberIn o = answered (verdictOf (o .answer)) .number
 
 -- what passed every line is in good order
-pub reader-order : (sheet p t : List ℕ) (s : State) → ReadsInOrder sheet p t s → GoodOrder (sheetRead s)
+pub reader-order : (sheet p t : List ℕ) (s : Progress) → ReadsInOrder sheet p t s → GoodOrder (sheetRead s)
 reader-order sheet p t s o = read-so-far s start (lines sheet) start-so-far (o .to-its-end) .1
 
 module _ (sheet p t : List ℕ) where
   -- after the last line LOOP alone is tested
-  after-order : (s : State) → ReadsInOrder sheet p t s → reading sheet p t ≡ afterLines s p t
+  after-order : (s : Progress) → ReadsInOrder sheet p t s → reading sheet p t ≡ afterLines s p t
   unfolding reading byLines
   after-order s o = rw (o .lengths, o .to-its-end) refl
 
-  by-reads : lengthsFit (length sheet) (length p) (length t) ≡ true → (x : Going State) → reads (goes start) (lines sheet) ≡ x → NotLoop (verdictIn x)
-      → ((s : State) × ReadsInOrder sheet p t s) ⊎ ((r : Refusal) × (reading sheet p t ≡ outcome (Bad r) p t) × NotLoop (Refuse r))
+  by-reads : lengthsFit (length sheet) (length p) (length t) ≡ true → (x : Going Progress) → reads (goes start) (lines sheet) ≡ x → NotLoop (verdictIn x)
+      → ((s : Progress) × ReadsInOrder sheet p t s) ⊎ ((r : Refusal) × (reading sheet p t ≡ readOutcome (Bad r) p t) × NotLoop (Refuse r))
   unfolding reading byLines
   by-reads l (goes s) e h = inl (s, record { lengths = l; to-its-end = e })
   by-reads l (refused r) e h = inr (r, rw (l, e) refl, h)
 
-  order-cases : ((s : State) × ReadsInOrder sheet p t s) ⊎ ((r : Refusal) × (reading sheet p t ≡ outcome (Bad r) p t) × NotLoop (Refuse r))
+  order-cases : ((s : Progress) × ReadsInOrder sheet p t s) ⊎ ((r : Refusal) × (reading sheet p t ≡ readOutcome (Bad r) p t) × NotLoop (Refuse r))
   unfolding reading
   order-cases =
       ⊎-elim
@@ -135,18 +131,18 @@ module _ (sheet p t : List ℕ) where
   abbrev loopAt : ℕ → Reading
   loopAt k = Bad (record { name = Loop; place = k })
 
-  module _ (s : State) (o : ReadsInOrder sheet p t s) where
-    refuses-loop : (k : ℕ) → LoopAt (sheetRead s) k → reading sheet p t ≡ outcome (loopAt k) p t
+  module _ (s : Progress) (o : ReadsInOrder sheet p t s) where
+    refuses-loop : (k : ℕ) → LoopAt (sheetRead s) k → reading sheet p t ≡ readOutcome (loopAt k) p t
     unfolding byLoop
     refuses-loop k l =
         ⊎-elim
         (λ (x : (loopPlace (sheetRead s) ≡ PAIRS) × NoLoop (sheetRead s)). absurd (loop-not (sheetRead s) k l (x .1)))
         (λ (y : (loopPlace (sheetRead s) < PAIRS) × LoopAt (sheetRead s) (loopPlace (sheetRead s))).
         let e : loopPlace (sheetRead s) ≡ k = loop-one (sheetRead s) (loopPlace (sheetRead s)) k (y .1) l in
-        after-order s o ∙ rw (lt-ltb (loopPlace (sheetRead s)) PAIRS (y .0)) (ap (λ (x : ℕ). outcome (loopAt x) p t) e))
+        after-order s o ∙ rw (lt-ltb (loopPlace (sheetRead s)) PAIRS (y .0)) (ap (λ (x : ℕ). readOutcome (loopAt x) p t) e))
         (loop-or (sheetRead s) (good-heads (sheetRead s) (reader-order sheet p t s o)))
 
-    accepts-none : NoLoop (sheetRead s) → reading sheet p t ≡ outcome (Good (handed (s .seen))) (s .periodic) (s .triggers)
+    accepts-none : NoLoop (sheetRead s) → reading sheet p t ≡ readOutcome (Good (handed (s .seen))) (s .periodics) (s .triggers)
     unfolding byLoop
     accepts-none nl =
         ⊎-elim
@@ -162,39 +158,39 @@ module _ (sheet p t : List ℕ) where
         (loop-or (sheetRead s) (good-heads (sheetRead s) (reader-order sheet p t s o)))
 
   -- THE THEOREM: LOOP at k exactly where the sheet reads in good order and has its loop at k
-  pub reader-loops : (k : ℕ) → (reading sheet p t ≡ outcome (loopAt k) p t) ↔ ((s : State) × ReadsInOrder sheet p t s × LoopAt (sheetRead s) k)
+  pub reader-loops : (k : ℕ) → (reading sheet p t ≡ readOutcome (loopAt k) p t) ↔ ((s : Progress) × ReadsInOrder sheet p t s × LoopAt (sheetRead s) k)
   reader-loops k = (
     (λ h.
         ⊎-elim
-        (λ (x : (s : State) × ReadsInOrder sheet p t s).
+        (λ (x : (s : Progress) × ReadsInOrder sheet p t s).
         ⊎-elim
         (λ (l : (j : ℕ) × LoopAt (sheetRead (x .0)) j).
-        let e : outcome (loopAt (l .0)) p t ≡ outcome (loopAt k) p t = sym (refuses-loop (x .0) (x .1) (l .0) (l .1)) ∙ h in
-        let j : l .0 ≡ k = ap (λ (o : Outcome). answered (verdictOf (o .answer)) .place) e in
+        let e : readOutcome (loopAt (l .0)) p t ≡ readOutcome (loopAt k) p t = sym (refuses-loop (x .0) (x .1) (l .0) (l .1)) ∙ h in
+        let j : l .0 ≡ k = ap (λ (o : ReadOutcome). answered (verdictOf (o .answer)) .place) e in
         (x .0, x .1, subst (LoopAt (sheetRead (x .0))) j (l .1)))
         (λ (n : NoLoop (sheetRead (x .0))).
         let e : 0 ≡ 8 = ap numberIn (sym (accepts-none (x .0) (x .1) n) ∙ h) in
         absurd (omega arith))
         (loop-or-none (x .0) (x .1)))
-        (λ (y : (r : Refusal) × (reading sheet p t ≡ outcome (Bad r) p t) × NotLoop (Refuse r)). absurd (y .2 (ap numberIn (sym (y .1) ∙ h))))
+        (λ (y : (r : Refusal) × (reading sheet p t ≡ readOutcome (Bad r) p t) × NotLoop (Refuse r)). absurd (y .2 (ap numberIn (sym (y .1) ∙ h))))
         order-cases),
     (λ x. refuses-loop (x .0) (x .1) k (x .2)),
   )
 
   -- and OK exactly where it reads in good order and has none: then the tables hold what was read
-  pub reader-accepts : (r : Read) (p′ t′ : List ℕ) → (reading sheet p t ≡ outcome (Good r) p′ t′)
-      ↔ ((s : State) × ReadsInOrder sheet p t s × NoLoop (sheetRead s) × (outcome (Good (handed (s .seen))) (s .periodic) (s .triggers) ≡ outcome (Good r) p′ t′))
+  pub reader-accepts : (r : Read) (p′ t′ : List ℕ) → (reading sheet p t ≡ readOutcome (Good r) p′ t′)
+      ↔ ((s : Progress) × ReadsInOrder sheet p t s × NoLoop (sheetRead s) × (readOutcome (Good (handed (s .seen))) (s .periodics) (s .triggers) ≡ readOutcome (Good r) p′ t′))
   reader-accepts r p′ t′ = (
     (λ h.
         ⊎-elim
-        (λ (x : (s : State) × ReadsInOrder sheet p t s).
+        (λ (x : (s : Progress) × ReadsInOrder sheet p t s).
         ⊎-elim
         (λ (l : (j : ℕ) × LoopAt (sheetRead (x .0)) j).
         let e : 8 ≡ 0 = ap numberIn (sym (refuses-loop (x .0) (x .1) (l .0) (l .1)) ∙ h) in
         absurd (omega arith))
         (λ (n : NoLoop (sheetRead (x .0))). (x .0, x .1, n, sym (accepts-none (x .0) (x .1) n) ∙ h))
         (loop-or-none (x .0) (x .1)))
-        (λ (y : (r : Refusal) × (reading sheet p t ≡ outcome (Bad r) p t) × NotLoop (Refuse r)).
+        (λ (y : (r : Refusal) × (reading sheet p t ≡ readOutcome (Bad r) p t) × NotLoop (Refuse r)).
         let e : numberOf (y .0 .name) ≡ 0 = ap numberIn (sym (y .1) ∙ h) in
         absurd (omega (arith, no-other (y .0 .name) .0, e)))
         order-cases),
@@ -202,17 +198,17 @@ module _ (sheet p t : List ℕ) where
   )
 
   -- a refusal leaves both tables as they came
-  pub reader-keeps : (r : Refusal) → reading sheet p t .answer ≡ Bad r → reading sheet p t ≡ outcome (Bad r) p t
+  pub reader-keeps : (r : Refusal) → reading sheet p t .answer ≡ Bad r → reading sheet p t ≡ readOutcome (Bad r) p t
   reader-keeps r h =
-      let kept : (x : Reading) → reading sheet p t ≡ outcome x p t → reading sheet p t ≡ outcome (Bad r) p t
-      = λ x e. e ∙ ap (λ (a : Reading). outcome a p t) (sym (ap (λ (o : Outcome). o .answer) e) ∙ h) in
+      let kept : (x : Reading) → reading sheet p t ≡ readOutcome x p t → reading sheet p t ≡ readOutcome (Bad r) p t
+      = λ x e. e ∙ ap (λ (a : Reading). readOutcome a p t) (sym (ap (λ (o : ReadOutcome). o .answer) e) ∙ h) in
       ⊎-elim
-      (λ (x : (s : State) × ReadsInOrder sheet p t s).
+      (λ (x : (s : Progress) × ReadsInOrder sheet p t s).
       ⊎-elim
       (λ (l : (j : ℕ) × LoopAt (sheetRead (x .0)) j). kept (loopAt (l .0)) (refuses-loop (x .0) (x .1) (l .0) (l .1)))
       (λ (n : NoLoop (sheetRead (x .0))).
-      let e : Good (handed (x .0 .seen)) ≡ Bad r = sym (ap (λ (o : Outcome). o .answer) (accepts-none (x .0) (x .1) n)) ∙ h in
+      let e : Good (handed (x .0 .seen)) ≡ Bad r = sym (ap (λ (o : ReadOutcome). o .answer) (accepts-none (x .0) (x .1) n)) ∙ h in
       absurd (omega (arith, no-other (r .name) .0, ap (λ (a : Reading). answered (verdictOf a) .number) e)))
       (loop-or-none (x .0) (x .1)))
-      (λ (y : (r : Refusal) × (reading sheet p t ≡ outcome (Bad r) p t) × NotLoop (Refuse r)). kept (Bad (y .0)) (y .1))
+      (λ (y : (r : Refusal) × (reading sheet p t ≡ readOutcome (Bad r) p t) × NotLoop (Refuse r)). kept (Bad (y .0)) (y .1))
       order-cases

@@ -109,9 +109,9 @@ open-there input plan p t tape x e =
 
 by-answer : (input : List ℕ) (o : Opened) → planned input .answer ≡ o → Printing (opening input)
 by-answer input (Opens plan) h =
-    let x = plan-opens input (planned input .periodic) (planned input .triggers) (planned input .answer) refl plan h in
-    subst Printing (sym (x .opens-it)) (open-there input plan (planned input .periodic) (planned input .triggers) (drop (plan .from) input) x refl)
-by-answer input (Refuses r) h = subst Printing (sym (plan-refuses input (planned input .periodic) (planned input .triggers) (planned input .answer) refl r h)) (_, refl)
+    let x = plan-opens input (planned input .periodics) (planned input .triggers) (planned input .answer) refl plan h in
+    subst Printing (sym (x .opens-it)) (open-there input plan (planned input .periodics) (planned input .triggers) (drop (plan .from) input) x refl)
+by-answer input (Refuses r) h = subst Printing (sym (plan-refuses input (planned input .periodics) (planned input .triggers) (planned input .answer) refl r h)) (_, refl)
 
 -- THE THEOREM: an input has exactly one day
 pub one-day : (input : List ℕ) → ExactlyOne (Prints (opening input))

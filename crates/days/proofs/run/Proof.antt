@@ -72,7 +72,7 @@ same-length c = search needs
 
 returns : tie.Need-returns Inv-loop μ-loop
 returns c = let s = c .before .before .before .before .before .before in
-    standing-end _ _ _ _ _ (s .pre) _ _ _ _ (search needs) (search needs) (c .before .loop .inv .1)
+    standing-end _ _ _ _ _ (s .pre) _ _ _ _ (c .loop-test .left) (c .before .loop .inv .0) (c .before .loop .inv .1)
 
 pub run-spec : {M : Type 1} → statement M
 run-spec =

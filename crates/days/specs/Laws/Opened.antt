@@ -19,7 +19,7 @@ use Rattle.walks.specs.Walks.{Going, goes, refused}
 use Rattle.readings.specs.declared.Read.{Read}
 use Rattle.readings.specs.declared.Reading.{Reading}
 use Rattle.readings.specs.declared.Reading.the-variants.{Good, Bad}
-use Rattle.hand_out.specs.Out.{Outcome, outcome}
+use Rattle.hand_out.specs.Out.{ReadOutcome, readOutcome}
 use Rattle.accepted.specs.Accepted.{reading-passes}
 use Rattle.split.specs.Split.{sheetBytes, sheetLines, sheetPart, tapePart}
 use Rattle.split.specs.Laws.{sheet-bytes-le}
@@ -30,7 +30,7 @@ use Rattle.tape.specs.Accepted.{Fine, accepted-fine, accepted-last}
 use Rattle.openings.specs.declared.Plan.{Plan}
 use Rattle.openings.specs.declared.Opened.{Opened}
 use Rattle.openings.specs.declared.Opened.the-variants.{Opens, Refuses}
-use Rattle.openings.specs.Opening.{INPUT-BYTES, Opening, refuses, afterTape, afterSheet, sheetRead, opening}
+use Rattle.openings.specs.Opening.{INPUT-BYTES, Opening, refuses, afterTape, afterSheet, sheetReading, opening}
 use Rattle.openings.specs.Planned.{Planned, opened, byHeard, byTape, bySheet, byReading, planned}
 use Rattle.day_lines.specs.Lines.{OUTPUT-BYTES}
 use Rattle.day_lines.specs.Run.{rulesOf, Accepted, openingOf}
@@ -55,15 +55,15 @@ module _ (input p t : List ℕ) where
 
   -- the reading of its sheet
   Reads : Reading → Type 0
-  Reads a = sheetRead input ≡ outcome a p t
+  Reads a = sheetReading input ≡ readOutcome a p t
 
-  within : leb (length input) INPUT-BYTES ≡ true → opening input ≡ afterSheet input (sheetRead input .answer) (sheetRead input .periodic) (sheetRead input .triggers)
+  within : leb (length input) INPUT-BYTES ≡ true → opening input ≡ afterSheet input (sheetReading input .answer) (sheetReading input .periodics) (sheetReading input .triggers)
   unfolding opening
   within w = rw w refl
 
   by-sheet : leb (length input) INPUT-BYTES ≡ true → (a : Reading) → Reads a → opening input ≡ afterSheet input a p t
   unfolding Reads
-  by-sheet w a e = within w ∙ ap (λ (o : Outcome). afterSheet input (o .answer) (o .periodic) (o .triggers)) e
+  by-sheet w a e = within w ∙ ap (λ (o : ReadOutcome). afterSheet input (o .answer) (o .periodics) (o .triggers)) e
 
   module _ (w : leb (length input) INPUT-BYTES ≡ true) (r : Read) (e : Reads (Good r)) where
     -- by what came of the tape
@@ -110,13 +110,13 @@ module _ (input p t : List ℕ) where
   -- THE LAWS
   module _ (o : Opened) (is : opened o p t ≡ planned input) where
     -- the parts of what came back, for an input within its limit
-    parts : leb (length input) INPUT-BYTES ≡ true → (o ≡ bySheet input (sheetRead input .answer)) × Reads (sheetRead input .answer)
+    parts : leb (length input) INPUT-BYTES ≡ true → (o ≡ bySheet input (sheetReading input .answer)) × Reads (sheetReading input .answer)
     unfolding planned byReading Reads
     parts w =
         let e : opened o p t ≡ byReading input = is ∙ rw w refl in
-        let x : p ≡ sheetRead input .periodic = ap (λ (z : Planned). z .periodic) e in
-        let y : t ≡ sheetRead input .triggers = ap (λ (z : Planned). z .triggers) e in
-        (ap (λ (z : Planned). z .answer) e, λ i. outcome (sheetRead input .answer) (sym x i) (sym y i))
+        let x : p ≡ sheetReading input .periodics = ap (λ (z : Planned). z .periodics) e in
+        let y : t ≡ sheetReading input .triggers = ap (λ (z : Planned). z .triggers) e in
+        (ap (λ (z : Planned). z .answer) e, λ i. readOutcome (sheetReading input .answer) (sym x i) (sym y i))
 
     long : leb (length input) INPUT-BYTES ≡ false → o ≡ Refuses (record { name = Length; place = 0 })
     unfolding planned
@@ -127,7 +127,7 @@ module _ (input p t : List ℕ) where
     pub plan-opens : (plan : Plan) → o ≡ Opens plan → Opens-to input plan p t
     plan-opens plan h =
         ⊎-elim
-        (λ (w : leb (length input) INPUT-BYTES ≡ true). let x = parts w in sheet-opens w (sheetRead input .answer) (x .1) plan (sym h ∙ x .0))
+        (λ (w : leb (length input) INPUT-BYTES ≡ true). let x = parts w in sheet-opens w (sheetReading input .answer) (x .1) plan (sym h ∙ x .0))
         (λ (w : leb (length input) INPUT-BYTES ≡ false). opens-not plan _ (sym h ∙ long w))
         (test (leb (length input) INPUT-BYTES))
 
@@ -135,7 +135,7 @@ module _ (input p t : List ℕ) where
     unfolding opening
     plan-refuses x h =
         ⊎-elim
-        (λ (w : leb (length input) INPUT-BYTES ≡ true). let y = parts w in sheet-refuses w (sheetRead input .answer) (y .1) x (sym h ∙ y .0))
+        (λ (w : leb (length input) INPUT-BYTES ≡ true). let y = parts w in sheet-refuses w (sheetReading input .answer) (y .1) x (sym h ∙ y .0))
         (λ (w : leb (length input) INPUT-BYTES ≡ false).
         let e : Refuses x ≡ Refuses (record { name = Length; place = 0 }) = sym h ∙ long w in
         let q : record { name = Length; place = 0 } ≡ x = cc in

@@ -1,5 +1,6 @@
 -- `due::row_due` meets its contract: it is the definition's tests.
 -- Assumes nothing.
+use mathlib.Core.Path.{refl}
 use Rattle.theory.specs.Sheet.{untilEnd, rowDue}
 use borrow.Author.Needs.{needs}
 use Rattle.due.proofs.row_due.Statement.{statement}
@@ -22,7 +23,7 @@ both-requires-2 c κs = search needs
 
 returns : tie.Need-returns
 unfolding rowDue untilEnd
-returns c = cc
+returns c = rw (c .both2 .ensures, c .before .both .ensures, c .before .before .long .ensures, c .before .before .before .residue .ensures, c .before .before .before .before .either .ensures) refl
 
 pub row-due-spec : {M : Type 1} → statement M
 row-due-spec =

@@ -3,7 +3,7 @@
 use mathlib.Core.Path.{_∙_}
 use Prim.Native.Nat.{_-_, _≤_}
 use Rattle.tables.specs.Laws.{head-byte}
-use Rattle.rows.specs.Rows.{RowIs}
+use Rattle.event_rows.specs.Row.{RowIs}
 use Rattle.edges.specs.Laws.{nodeBelow, nodes-none, nodes-next, nodes-end}
 use borrow.Author.Needs.{needs}
 use Rattle.edges.proofs.nodes.Statement.{statement}

@@ -17,12 +17,12 @@ use Rattle.tables.specs.Layout.{PERIODIC-TABLE, TRIGGER-TABLE, sheetOf}
 use Rattle.text.specs.Lines.{lines}
 use Rattle.readings.specs.declared.Read.{Read}
 use Rattle.readings.specs.declared.Reading.the-variants.{Good}
-use Rattle.line_acts.specs.Acts.{State}
+use Rattle.line_acts.specs.Acts.{Progress}
 use Rattle.walks.specs.Walks.{Going, goes, refused}
 use Rattle.lines.specs.Lines.{reads}
-use Rattle.hand_out.specs.Out.{outcome, sheetRead, handed, byLoop}
+use Rattle.hand_out.specs.Out.{readOutcome, sheetRead, handed, byLoop}
 use Rattle.sheet.specs.Sheet.{start, byLines, lengthsFit, reading}
-use Rattle.examples.specs.Day.{text, sheetLines, Day, filled, sheetOfDay}
+use Rattle.examples.specs.Day.{text, sheetStrings, Day, padded, sheetOfDay}
 use Rattle.examples.specs.Passes.{same, readTo, readFound}
 
 same-is : (k l : List ℕ) → same k l ≡ true → k ≡ l
@@ -32,14 +32,14 @@ same-is (a ∷ k) [] h = absurd (false≢true h)
 same-is (a ∷ k) (b ∷ l) h = let x : a ≡ b = eqb-true a b (and-left (eqb a b) (same k l) h) in let y : k ≡ l = same-is k l (and-right (eqb a b) (same k l) h) in λ i. x i ∷ y i
 
 -- the lines were read to a state with these counts and tables
-record ReadTo (x : Going State) (r : Read) (p t : List ℕ) : Type 0 where
-  found : State
+record ReadTo (x : Going Progress) (r : Read) (p t : List ℕ) : Type 0 where
+  found : Progress
   goes-on : x ≡ goes found
   hands : handed (found .seen) ≡ r
-  periodic : found .periodic ≡ p
+  periodics : found .periodics ≡ p
   triggers : found .triggers ≡ t
 
-read-to : (x : Going State) (r : Read) (p t : List ℕ) → readTo x r p t ≡ true → ReadTo x r p t
+read-to : (x : Going Progress) (r : Read) (p t : List ℕ) → readTo x r p t ≡ true → ReadTo x r p t
 read-to (goes s) r p t h =
     let a : Bool = eqb (s .seen .roles) (r .roles) in
     let b : Bool = eqb (s .seen .periodics) (r .periodics) in
@@ -53,27 +53,27 @@ read-to (goes s) r p t h =
       found = s;
       goes-on = refl;
       hands = λ i. record { roles = x i; periodics = y i; triggers = z i };
-      periodic = same-is (s .periodic) p (and-left (same (s .periodic) p) _ tables);
-      triggers = same-is (s .triggers) t (and-right (same (s .periodic) p) _ tables);
+      periodics = same-is (s .periodics) p (and-left (same (s .periodics) p) _ tables);
+      triggers = same-is (s .triggers) t (and-right (same (s .periodics) p) _ tables);
     }
 read-to (refused f) r p t h = absurd (false≢true h)
 
 -- a state without a loop is handed out
-loopless : (s : State) (p t : List ℕ) (r : Read) (p′ t′ : List ℕ) → loopPlace (sheetOf (r .roles) (r .periodics) (r .triggers) p′ t′) ≡ PAIRS
-    → handed (s .seen) ≡ r → s .periodic ≡ p′ → s .triggers ≡ t′ → byLoop (loopPlace (sheetRead s)) s p t ≡ outcome (Good r) p′ t′
+loopless : (s : Progress) (p t : List ℕ) (r : Read) (p′ t′ : List ℕ) → loopPlace (sheetOf (r .roles) (r .periodics) (r .triggers) p′ t′) ≡ PAIRS
+    → handed (s .seen) ≡ r → s .periodics ≡ p′ → s .triggers ≡ t′ → byLoop (loopPlace (sheetRead s)) s p t ≡ readOutcome (Good r) p′ t′
 unfolding byLoop
 loopless s p t r p′ t′ k h x y =
     let z : loopPlace (sheetRead s) ≡ PAIRS = (λ i. loopPlace (sheetOf (h i .roles) (h i .periodics) (h i .triggers) (x i) (y i))) ∙ k in
-    rw z (λ i. outcome (Good (h i)) (x i) (y i))
+    rw z (λ i. readOutcome (Good (h i)) (x i) (y i))
 
 -- THE LAW
 pub reads-to : (d : Day) → GoodOrder (sheetOfDay d) → NoLoop (sheetOfDay d) → readFound d ≡ true
-    → reading (text (sheetLines (d .input))) (filled PERIODIC-TABLE []) (filled TRIGGER-TABLE [])
-    ≡ outcome (Good (d .read)) (filled PERIODIC-TABLE (d .periodic)) (filled TRIGGER-TABLE (d .triggers))
+    → reading (text (sheetStrings (d .input))) (padded PERIODIC-TABLE []) (padded TRIGGER-TABLE [])
+    ≡ readOutcome (Good (d .read)) (padded PERIODIC-TABLE (d .periodics)) (padded TRIGGER-TABLE (d .triggers))
 unfolding readFound reading byLines
 reads-to d good nl h =
-    let fit : Bool = lengthsFit (length (text (sheetLines (d .input)))) (length (filled PERIODIC-TABLE [])) (length (filled TRIGGER-TABLE [])) in
-    let r = read-to (reads (goes start) (lines (text (sheetLines (d .input))))) (d .read) (filled PERIODIC-TABLE (d .periodic)) (filled TRIGGER-TABLE (d .triggers)) (and-right fit _ h) in
+    let fit : Bool = lengthsFit (length (text (sheetStrings (d .input)))) (length (padded PERIODIC-TABLE [])) (length (padded TRIGGER-TABLE [])) in
+    let r = read-to (reads (goes start) (lines (text (sheetStrings (d .input))))) (d .read) (padded PERIODIC-TABLE (d .periodics)) (padded TRIGGER-TABLE (d .triggers)) (and-right fit _ h) in
     rw (and-left fit _ h, r .goes-on)
-    (loopless (r .found) (filled PERIODIC-TABLE []) (filled TRIGGER-TABLE []) (d .read) (filled PERIODIC-TABLE (d .periodic)) (filled TRIGGER-TABLE (d .triggers))
-    (noloop-says (sheetOfDay d) (good-heads (sheetOfDay d) good) .1 nl) (r .hands) (r .periodic) (r .triggers))
+    (loopless (r .found) (padded PERIODIC-TABLE []) (padded TRIGGER-TABLE []) (d .read) (padded PERIODIC-TABLE (d .periodics)) (padded TRIGGER-TABLE (d .triggers))
+    (noloop-says (sheetOfDay d) (good-heads (sheetOfDay d) good) .1 nl) (r .hands) (r .periodics) (r .triggers))

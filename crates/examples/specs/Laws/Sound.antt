@@ -25,7 +25,7 @@ use Rattle.text.specs.Framed.{framed}
 use Rattle.frames.specs.Frame.{bytesOf, checked}
 use Rattle.judge.specs.Laws.{judge-refuses-not, judge-finds}
 use Rattle.examples.specs.Written.{Prioritized, at, among, Rule, triggerOf, ruleAt, Rest, sheetWith, Fits, rolesIn, rowsIn}
-use Rattle.examples.specs.Day.{tapeLines, askedAt, Day, sheetOfDay, tapeLine, Worked}
+use Rattle.examples.specs.Day.{tapeStrings, askedAt, Day, sheetOfDay, tapeLine, Worked}
 use Rattle.examples.specs.Example.{Example, each, due-at, wins-over, accepted, loops, solved, as-given, never-fires, worked, rowOf, Wins, Accepted, Refused, OnlySolution, InBody, Says, Said}
 use Rattle.examples.specs.Passes.{eachOf, goodOrder, rulesAlone, leveled, listed, loopsAt, selfCaused, opposed, readFound, tapeFound, passes, passing}
 use Rattle.examples.specs.Laws.Listed.{beq-true, among-part}
@@ -178,12 +178,12 @@ worked-is d h =
     let h₃ : rules ≡ true = and-right input rules h₁ in
     let good : GoodOrder (sheetOfDay d) = good-order (sheetOfDay d) (and-left (goodOrder (sheetOfDay d)) _ h₃) in
     let nl : NoLoop (sheetOfDay d) = levels-noloop (sheetOfDay d) (listed (d .levels)) (leveled-levels (sheetOfDay d) (listed (d .levels)) (and-right (goodOrder (sheetOfDay d)) _ h₃)) in
-    let tape : (i : ℕ) → i < length (tapeLines (d .input)) → right i ≡ true = all-elim (length (tapeLines (d .input))) right (and-right (readFound d) _ h₂) in
+    let tape : (i : ℕ) → i < length (tapeStrings (d .input)) → right i ≡ true = all-elim (length (tapeStrings (d .input))) right (and-right (readFound d) _ h₂) in
     record {
       read = reads-to d good nl (and-left (readFound d) _ h₂);
       tape = λ i l. (and-left (framed (tapeLine d i)) _ (tape i l), and-right (framed (tapeLine d i)) _ (tape i l));
       fresh = record { instant = refl; roles = λ r. refl; waiting = λ k e p l. refl };
-      minutes = minutes-found (sheetOfDay d) good nl (askedAt (tapeLines (d .input))) 0 [] [] (d .minutes) (and-right (input && rules) _ h);
+      minutes = minutes-found (sheetOfDay d) good nl (askedAt (tapeStrings (d .input))) 0 [] [] (d .minutes) (and-right (input && rules) _ h);
     }
 
 -- ---- THE LAW

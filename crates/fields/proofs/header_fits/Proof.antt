@@ -1,5 +1,6 @@
 -- `fields::header_fits` meets its contract: the calls in a line are the definition's parts.
 -- Assumes nothing.
+use mathlib.Core.Path.{refl}
 use Rattle.fields.specs.Fields.{headerFits}
 use borrow.Author.Needs.{needs}
 use Rattle.fields.proofs.header_fits.Statement.{statement}
@@ -13,7 +14,7 @@ both-requires-2 c κs = search needs
 
 returns : tie.Need-returns
 unfolding headerFits
-returns c = cc
+returns c = rw (c .both2 .ensures, c .before .both .ensures) refl
 
 pub header-fits-spec : {M : Type 1} → statement M
 header-fits-spec = tie.close (tie.spec both-requires both-requires-2 returns)

@@ -4,7 +4,7 @@ use mathlib.Core.Path.{ap₂, _∙_}
 use mathlib.Core.List.{List}
 use Prim.Native.Nat.{ℕ}
 use Rattle.readings.specs.declared.Reading.the-variants.{Good}
-use Rattle.hand_out.specs.Out.{outcome, handed}
+use Rattle.hand_out.specs.Out.{readOutcome, handed}
 use Rattle.hand_out.specs.Laws.{passed-out, refused-out}
 use borrow.Author.Needs.{needs}
 use Rattle.hand_out.proofs.hand_out.Statement.{statement}
@@ -38,7 +38,7 @@ returns c =
     let e = p .before .before in
     let j = e .before .before in
     let s = j .before .before .before .before .before in
-    ap₂ (λ (x y : List ℕ). outcome (Good (handed (s .args .s))) x y) (p .copy-out .ensures) (t .copy-out2 .ensures)
+    ap₂ (λ (x y : List ℕ). readOutcome (Good (handed (s .args .s))) x y) (p .copy-out .ensures) (t .copy-out2 .ensures)
     ∙ passed-out _ _ _ _ _ _ (j .loop-judged .ensures) (e .enum-told .given .1)
 
 returns-2 : tie.Need-returns-2

@@ -1,5 +1,6 @@
 -- `limits::of_roles` meets its contract.
 -- Assumes nothing.
+use mathlib.Core.Path.{refl}
 use borrow.Author.Needs.{needs}
 use Rattle.limits.proofs.of_roles.Statement.{statement}
 use Rattle.limits.proofs.of_roles.Tie as tie
@@ -14,7 +15,7 @@ mul-result : tie.Need-mul-result
 mul-result c = search needs
 
 returns : tie.Need-returns
-returns c = cc
+returns c = rw (c .wide2 .ensures, c .before .wide .ensures) refl
 
 pub of-roles-spec : {M : Type 1} → statement M
 of-roles-spec = tie.close (tie.spec wide-requires wide-requires-2 mul-result returns)

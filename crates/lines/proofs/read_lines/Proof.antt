@@ -6,7 +6,7 @@ use Prim.Native.Nat.{_-_, _≤_, _<_}
 use lib.ListN.{length, drop}
 use Rattle.text.specs.Lines.{lines}
 use Rattle.text.specs.Laws.Lines.{end-le}
-use Rattle.line_acts.specs.Acts.{state}
+use Rattle.line_acts.specs.Acts.{progress}
 use Rattle.walks.specs.Walks.{goes}
 use Rattle.lines.specs.Lines.{sheetReader, reads, fresh}
 use Rattle.walks.specs.Laws.{walks-endless, walks-none, turn-goes, turn-stops}
@@ -21,7 +21,7 @@ abbrev Inv-loop : tie.InvT-loop
 Inv-loop sheet per₀ trg₀ s₀ at₀ per trg s at =
     ((at ≤ length sheet) × (s .line ≤ at))
     × (((length per ≡ length per₀) × (length trg ≡ length trg₀))
-    × (reads (goes (state s per trg)) (lines (drop at sheet)) ≡ reads (goes (state fresh per₀ trg₀)) (lines sheet)))
+    × (reads (goes (progress s per trg)) (lines (drop at sheet)) ≡ reads (goes (progress fresh per₀ trg₀)) (lines sheet)))
 
 abbrev μ-loop : tie.MeasureT-loop
 μ-loop sheet per₀ trg₀ s₀ at₀ per trg s at = length sheet - at
@@ -121,7 +121,7 @@ returns-3 : tie.Need-returns-3 Inv-loop μ-loop
 returns-3 c =
     let l = c .before .before in
     c .at-end .ensures _ _
-    ∙ (sym (walks-none sheetReader (l .before .before .before .before .args .sheet .now) (l .loop .at) (state (l .loop .s) (l .loop .periodics) (l .loop .triggers)) (search needs)) ∙ l .loop .inv .1 .1)
+    ∙ (sym (walks-none sheetReader (l .before .before .before .before .args .sheet .now) (l .loop .at) (progress (l .loop .s) (l .loop .periodics) (l .loop .triggers)) (search needs)) ∙ l .loop .inv .1 .1)
 
 pub read-lines-spec : {M : Type 1} → statement M
 read-lines-spec =

@@ -10,16 +10,16 @@ use Rattle.walks.specs.Walks.{goes}
 use Rattle.walks.specs.Laws.{verdict-goes}
 use Rattle.line_tests.specs.Judge.{judgeLine}
 use Rattle.line_tests.specs.Laws.{Passed, passes}
-use Rattle.line_acts.specs.Acts.{State, after}
+use Rattle.line_acts.specs.Acts.{Progress, after}
 use Rattle.line_acts.specs.Laws.{seen-line}
 use Rattle.lines.specs.Line.{lineStep}
 
-pub took-line : (s n : State) (l : List ℕ) → lineStep s l ≡ goes n → Passed (s .seen) (bytesOf l) × (after s (bytesOf l) ≡ n)
+pub took-line : (s n : Progress) (l : List ℕ) → lineStep s l ≡ goes n → Passed (s .seen) (bytesOf l) × (after s (bytesOf l) ≡ n)
 unfolding lineStep
 took-line s n l e =
     let v = verdict-goes (judgeLine (s .seen .line + 1) (s .seen) l) (after s (bytesOf l)) n e in
     (passes (s .seen .line + 1) (s .seen) l (v .0), v .1)
 
-pub line-next : (s n : State) (l : List ℕ) → lineStep s l ≡ goes n → n .seen .line ≡ s .seen .line + 1
+pub line-next : (s n : Progress) (l : List ℕ) → lineStep s l ≡ goes n → n .seen .line ≡ s .seen .line + 1
 unfolding after
-line-next s n l e = sym (ap (λ (x : State). x .seen .line) (took-line s n l e .1)) ∙ seen-line (kind (bytesOf l)) (byteAt (bytesOf l) 2) (s .seen)
+line-next s n l e = sym (ap (λ (x : Progress). x .seen .line) (took-line s n l e .1)) ∙ seen-line (kind (bytesOf l)) (byteAt (bytesOf l) 2) (s .seen)

@@ -5,18 +5,18 @@ use mathlib.Core.List.{List}
 use Prim.Native.Nat.{ℕ}
 use Rattle.answers.specs.declared.Refusal.{Refusal}
 use Rattle.line_tests.specs.declared.Seen.{Seen}
-use Rattle.line_acts.specs.Acts.{State, state}
+use Rattle.line_acts.specs.Acts.{Progress, progress}
 use Rattle.lines.specs.declared.Taken.{Taken}
 use Rattle.lines.specs.declared.Taken.the-variants.{Goes, Refused}
 use Rattle.walks.specs.Walks.{Going, goes, refused}
 
-abbrev pub took : Taken → List ℕ → List ℕ → Going State
-took (Goes s) p t = goes (state s p t)
+abbrev pub took : Taken → List ℕ → List ℕ → Going Progress
+took (Goes s) p t = goes (progress s p t)
 took (Refused r) p t = refused r
 
 -- what the lines made, by what came back
-pub went : (w : Taken) (p t : List ℕ) (x : Going State) (s : Seen) → took w p t ≡ x → w ≡ Goes s → goes (state s p t) ≡ x
+pub went : (w : Taken) (p t : List ℕ) (x : Going Progress) (s : Seen) → took w p t ≡ x → w ≡ Goes s → goes (progress s p t) ≡ x
 went w p t x s e h = sym (ap (λ (v : Taken). took v p t) h) ∙ e
 
-pub stopped : (w : Taken) (p t : List ℕ) (x : Going State) (r : Refusal) → took w p t ≡ x → w ≡ Refused r → refused r ≡ x
+pub stopped : (w : Taken) (p t : List ℕ) (x : Going Progress) (r : Refusal) → took w p t ≡ x → w ≡ Refused r → refused r ≡ x
 stopped w p t x r e h = sym (ap (λ (v : Taken). took v p t) h) ∙ e

@@ -13,7 +13,8 @@ use Rattle.theory.specs.Graph.{node, plus, minus, edge}
 use Rattle.theory.specs.LoopTest.{through, reach, PAIRS, loopPlace, levelOf}
 use Rattle.theory.specs.Laws.First.{first-same}
 use Rattle.tables.specs.Layout.{triggersOf}
-use Rattle.rows.specs.Rows.{Row, edgesOf, RowIs, RowsAre, Become}
+use Rattle.event_rows.specs.Row.{Row, RowIs}
+use Rattle.rows.specs.Rows.{edgesOf, RowsAre, Become}
 use Rattle.rows.specs.Laws.Rows.{rows-same, rows-say, empty-rows}
 use Rattle.edges.specs.Drawing.{tailOf, drawsBelow, addedFrom}
 use Rattle.edges.specs.Laws.{draws-all}

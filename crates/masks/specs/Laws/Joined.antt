@@ -1,4 +1,4 @@
--- What joins a mask, the roles or a buffer joins the set that it stands for, and nothing else changes.
+-- What joins a mask or a buffer joins the set that it stands for, and nothing else changes.
 -- Assumes nothing.
 use mathlib.Core.Path.{_≡_, refl, sym, ap, _∙_}
 use mathlib.Core.Logic.{⊎-elim}
@@ -11,28 +11,22 @@ use lib.Bits.{bitOr}
 use lib.ListN.{length, getD, length-set}
 use lib.Seq.{getD-set-same, getD-set-other}
 use borrow.Author.Tests.{ltb-true, ltb-false, lt-ltb, eqb-true, eqb-false, eq-eqb, ne-eqb}
-use Rattle.theory.specs.Numbers.{ROLES, EVENTS, PRIORITIES, WAITING-ROWS, WAITING-NUMBERS}
+use Rattle.theory.specs.Numbers.{EVENTS, PRIORITIES, WAITING-ROWS, WAITING-NUMBERS}
 use Rattle.theory.specs.Sheet.{is}
 use Rattle.theory.specs.Laws.Tests.{and-left, and-right, and-both, test, bool-ext}
 use Rattle.tables.specs.Buffers.{bit, eventsOf, waitingOf}
-use Rattle.masks.specs.Masks.{withPriority, joinedAt, withRole}
+use Rattle.masks.specs.Masks.{withPriority, joinedAt}
 use Rattle.masks.specs.Laws.Bits.{bit-or, bit-pow}
 
 -- ---- in a number
 
-bit-joined : (n p q : ℕ) → bit (bitOr n (2 ^ p)) q ≡ (bit n q || eqb p q)
+pub bit-joined : (n p q : ℕ) → bit (bitOr n (2 ^ p)) q ≡ (bit n q || eqb p q)
 bit-joined n p q = bit-or n (2 ^ p) q ∙ ap (λ (b : Bool). bit n q || b) (bit-pow p q)
 
 -- the mask's priorities, and p
 priority-joined : (m p q : ℕ) → p < PRIORITIES → bit (withPriority m p) q ≡ (bit m q || eqb p q)
 unfolding withPriority
 priority-joined m p q h = rw (lt-ltb p PRIORITIES h) (bit-joined m p q)
-
--- the roles, and r where `on`
-pub role-joined : (roles r k : ℕ) (on : Bool) → r < ROLES → bit (withRole roles r on) k ≡ (bit roles k || (on && eqb r k))
-unfolding withRole
-role-joined roles r k true h = rw (lt-ltb r ROLES h) (bit-joined roles r k)
-role-joined roles r k false h = sym (or-false (bit roles k))
 
 -- ---- in a buffer
 

@@ -1,5 +1,6 @@
 -- `requests::request_at` meets its contract: the three numbers from 3 × k on.
 -- Assumes nothing.
+use mathlib.Core.Path.{refl}
 use Rattle.tables.specs.Asked.{requestAt}
 use borrow.Author.Needs.{needs}
 use Rattle.requests.proofs.request_at.Statement.{statement}
@@ -28,7 +29,7 @@ byte-requires-3 c κs = search needs
 
 returns : tie.Need-returns
 unfolding requestAt
-returns c = cc
+returns c = rw (c .byte3 .ensures, c .before .byte2 .ensures, c .before .before .byte .ensures, c .before .before .before .row-index .ensures) refl
 
 pub request-at-spec : {M : Type 1} → statement M
 request-at-spec =

@@ -1,5 +1,6 @@
 -- `requests::request_fits` meets its contract: it is the definition's tests.
 -- Assumes nothing.
+use mathlib.Core.Path.{refl}
 use Rattle.theory.specs.Instant.{requestFits}
 use borrow.Author.Needs.{needs}
 use Rattle.requests.proofs.request_fits.Statement.{statement}
@@ -16,7 +17,7 @@ both-requires-2 c κs = search needs
 
 returns : tie.Need-returns
 unfolding requestFits
-returns c = cc
+returns c = rw (c .both2 .ensures, c .before .both .ensures, c .before .before .before .before .of-roles .ensures) refl
 
 pub request-fits-spec : {M : Type 1} → statement M
 request-fits-spec = tie.close (tie.spec of-roles-requires both-requires both-requires-2 returns)

@@ -15,9 +15,10 @@ use Rattle.theory.specs.Numbers.{EVENTS}
 use Rattle.theory.specs.Below.{anyBelow}
 use Rattle.theory.specs.Graph.{Edges}
 use Rattle.theory.specs.Laws.Tests.{same-or}
-use Rattle.rows.specs.Rows.{Row, reaches, edgesOf, RowIs, RowsAre, linked}
-use Rattle.rows.specs.Laws.Changes.{past-event}
-use Rattle.rows.specs.Laws.Row.{row-same, empty-row, none-reached}
+use Rattle.event_rows.specs.Row.{Row, reaches, RowIs}
+use Rattle.rows.specs.Rows.{edgesOf, RowsAre, linked}
+use Rattle.event_rows.specs.Laws.Changes.{past-event}
+use Rattle.event_rows.specs.Laws.Row.{row-same, empty-row, none-reached}
 
 pub rows-same : {E : Edges} {rows : List Row} (F : Edges) → ((a b : ℕ) → a < EVENTS → b < EVENTS → E a b ≡ F a b) → RowsAre E rows → RowsAre F rows
 rows-same F e h = record { size = h .size; each = λ a l. row-same (F a) (λ b m. e a b l m) (h .each a l) }

@@ -1,5 +1,6 @@
 -- `sheet::lengths_fit` meets its contract: the calls in a line are the definition's parts.
 -- Assumes nothing.
+use mathlib.Core.Path.{refl}
 use Rattle.sheet.specs.Sheet.{lengthsFit}
 use borrow.Author.Needs.{needs}
 use Rattle.sheet.proofs.lengths_fit.Statement.{statement}
@@ -13,7 +14,7 @@ both-requires-2 c κs = search needs
 
 returns : tie.Need-returns
 unfolding lengthsFit
-returns c = cc
+returns c = rw (c .both2 .ensures, c .before .both .ensures) refl
 
 pub lengths-fit-spec : {M : Type 1} → statement M
 lengths-fit-spec = tie.close (tie.spec both-requires both-requires-2 returns)

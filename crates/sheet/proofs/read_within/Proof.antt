@@ -2,7 +2,7 @@
 -- Assumes nothing.
 use mathlib.Core.Path.{ap, _∙_}
 use Rattle.walks.specs.Walks.{Going}
-use Rattle.line_acts.specs.Acts.{State}
+use Rattle.line_acts.specs.Acts.{Progress}
 use Rattle.sheet.specs.Sheet.{byLines}
 use Rattle.lines.specs.Laws.Took.{went, stopped}
 use borrow.Author.Needs.{needs}
@@ -47,14 +47,14 @@ returns c =
     let l = w .before .before .before .before in
     let s = l .before .before .before .before .before .before in
     h .hand-out .ensures
-    ∙ ap (λ (x : Going State). byLines x (s .args .periodics .now) (s .args .triggers .now)) (went _ _ _ _ _ (l .read-lines .ensures) (w .w .given .1))
+    ∙ ap (λ (x : Going Progress). byLines x (s .args .periodics .now) (s .args .triggers .now)) (went _ _ _ _ _ (l .read-lines .ensures) (w .w .given .1))
 
 returns-2 : tie.Need-returns-2
 unfolding byLines
 returns-2 c =
     let l = c .before .before .before .before .before in
     let s = l .before .before .before .before .before .before in
-    ap (λ (x : Going State). byLines x (s .args .periodics .now) (s .args .triggers .now)) (stopped _ _ _ _ _ (l .read-lines .ensures) (c .before .w2 .given .1))
+    ap (λ (x : Going Progress). byLines x (s .args .periodics .now) (s .args .triggers .now)) (stopped _ _ _ _ _ (l .read-lines .ensures) (c .before .w2 .given .1))
 
 pub read-within-spec : {M : Type 1} → statement M
 read-within-spec =

@@ -5,11 +5,11 @@ use mathlib.Core.List.{List}
 use Prim.Native.Nat.{ℕ}
 use Rattle.theory.specs.Laws.Exact.{exact}
 use Rattle.readings.specs.declared.Reading.{Reading}
-use Rattle.hand_out.specs.Out.{outcome}
+use Rattle.hand_out.specs.Out.{readOutcome}
 use Rattle.hand_out.specs.Exact.{outcome-one}
 use Rattle.sheet.specs.Sheet.{reading}
 
 pub read-sheet-exact : (sheet p t : List ℕ) (a a′ : Reading) (p₁ p₂ t₁ t₂ : List ℕ)
-    → outcome a p₁ t₁ ≡ reading sheet p t → outcome a′ p₂ t₂ ≡ reading sheet p t
+    → readOutcome a p₁ t₁ ≡ reading sheet p t → readOutcome a′ p₂ t₂ ≡ reading sheet p t
     → (a ≡ a′) × (p₁ ≡ p₂) × (t₁ ≡ t₂)
 read-sheet-exact sheet p t a a′ p₁ p₂ t₁ t₂ h h′ = outcome-one a a′ p₁ p₂ t₁ t₂ (exact h h′)

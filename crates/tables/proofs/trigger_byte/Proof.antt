@@ -1,5 +1,6 @@
 -- `tables::trigger_byte` meets its contract.
 -- Assumes nothing.
+use mathlib.Core.Path.{refl}
 use borrow.Author.Needs.{needs}
 use Rattle.tables.proofs.trigger_byte.Statement.{statement}
 use Rattle.tables.proofs.trigger_byte.Tie as tie
@@ -20,7 +21,7 @@ byte-requires : tie.Need-byte-requires
 byte-requires c κs = search needs
 
 returns : tie.Need-returns
-returns c = cc
+returns c = rw (c .byte .ensures, c .before .index .ensures, c .before .before .row-index .ensures) refl
 
 pub trigger-byte-spec : {M : Type 1} → statement M
 trigger-byte-spec =

@@ -16,7 +16,7 @@ either-requires c κs = search needs
 returns : tie.Need-returns
 unfolding roomFor
 returns c = let d = c .before .before .before in
-    rw (eq-eqb _ _ (sym (d .before .byte-at .ensures) ∙ d .if1 .taken)) cc
+    rw (eq-eqb _ _ (sym (d .before .byte-at .ensures) ∙ d .if1 .taken), ← d .before .before .before .pre) (c .either .ensures)
 
 returns-2 : tie.Need-returns-2
 unfolding roomFor

@@ -1,10 +1,15 @@
--- `tape_tests::tape_judged` meets its contract: FRAME, CHECK, then the tests of the frame.
+-- `tape_tests::tape_judged` meets its contract: the calls are the tests of the definition, and `in_order` keeps their order.
 -- Assumes nothing.
-use mathlib.Core.Path.{refl, sym, _∙_}
-use Rattle.tape_tests.specs.Tape.{judgeTape}
+use mathlib.Core.Path.{_∙_}
+use Rattle.answers.specs.declared.Name.the-variants.{Request}
+use Rattle.answers.specs.Answers.{inOrder}
+use Rattle.tape_tests.specs.Tape.{tapeTests, judgeTape}
 use borrow.Author.Needs.{needs}
 use Rattle.tape_tests.proofs.tape_judged.Statement.{statement}
 use Rattle.tape_tests.proofs.tape_judged.Tie as tie
+
+instant-of-requires : tie.Need-instant-of-requires
+instant-of-requires c κs = search needs
 
 is-framed-requires : tie.Need-is-framed-requires
 is-framed-requires c κs = search needs
@@ -12,31 +17,43 @@ is-framed-requires c κs = search needs
 is-checked-requires : tie.Need-is-checked-requires
 is-checked-requires c κs = search needs
 
-frame-judged-requires : tie.Need-frame-judged-requires
-frame-judged-requires c κs = search needs
+of-tape-requires : tie.Need-of-tape-requires
+of-tape-requires c κs = search needs
+
+has-room-requires : tie.Need-has-room-requires
+has-room-requires c κs = search needs
+
+in-time-requires : tie.Need-in-time-requires
+in-time-requires c κs = search needs
+
+ask-fits-requires : tie.Need-ask-fits-requires
+ask-fits-requires c κs = search needs
+
+in-order-requires : tie.Need-in-order-requires
+in-order-requires c κs = search needs
 
 returns : tie.Need-returns
-unfolding judgeTape
+unfolding judgeTape tapeTests
 returns c =
-    let d = c .before .before in
-    rw (sym (d .before .before .is-framed .ensures) ∙ d .before .if1 .taken, sym (d .is-checked .ensures) ∙ c .before .if2 .taken) (c .frame-judged .ensures)
-
-returns-2 : tie.Need-returns-2
-unfolding judgeTape
-returns-2 c = let d = c .before in
-    rw (sym (d .before .before .is-framed .ensures) ∙ d .before .if1 .taken, sym (d .is-checked .ensures) ∙ c .if2 .left) refl
-
-returns-3 : tie.Need-returns-3
-unfolding judgeTape
-returns-3 c = rw (sym (c .before .is-framed .ensures) ∙ c .if1 .left) refl
+    let request = c .before in
+    let time = request .before in
+    let room = time .before in
+    let kind = room .before in
+    let check = kind .before in
+    let frame = check .before in
+    c .in-order .ensures
+    ∙ (λ i. inOrder (record { framed = frame .is-framed .ensures i; checked = check .is-checked .ensures i; kind = kind .of-tape .ensures i; room = room .has-room .ensures i; field = time .in-time .ensures i; last = request .ask-fits .ensures i }) Request (frame .before .before .before .args .place))
 
 pub tape-judged-spec : {M : Type 1} → statement M
 tape-judged-spec =
     tie.close
     (tie.spec
+    instant-of-requires
     is-framed-requires
     is-checked-requires
-    frame-judged-requires
-    returns
-    returns-2
-    returns-3)
+    of-tape-requires
+    has-room-requires
+    in-time-requires
+    ask-fits-requires
+    in-order-requires
+    returns)

@@ -1,5 +1,6 @@
 -- `trigger_limits::fits_from` meets its contract: the calls in a line are the definition's parts.
 -- Assumes nothing.
+use mathlib.Core.Path.{refl}
 use Rattle.theory.specs.Sheet.{triggerFits}
 use Rattle.tables.specs.Layout.{triggerFrom}
 use borrow.Author.Needs.{needs}
@@ -71,7 +72,22 @@ both-requires-7 c κs = search needs
 
 returns : tie.Need-returns
 unfolding triggerFits triggerFrom
-returns c = cc
+returns c =
+    let few = c .before in
+    let events = few .before in
+    let conditions = events .before in
+    let head = conditions .before in
+    let priority = head .before in
+    let delay = priority .before in
+    let p = delay .before in
+    let h = p .before in
+    let b = h .before in
+    let cs = b .before in
+    let es = cs .before in
+    let some = es .before in
+    let m = some .before in
+    let n = m .before in
+    rw (c .both7 .ensures, few .both6 .ensures, events .both5 .ensures, conditions .both4 .ensures, head .both3 .ensures, priority .both2 .ensures, some .both .ensures, es .all-of-roles .ensures, cs .all-of-roles2 .ensures, h .of-roles .ensures, n .byte .ensures, m .byte2 .ensures, b .byte3 .ensures, p .byte4 .ensures, delay .byte5 .ensures) refl
 
 pub fits-from-spec : {M : Type 1} → statement M
 fits-from-spec =

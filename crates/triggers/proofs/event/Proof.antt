@@ -1,5 +1,6 @@
 -- `triggers::event` meets its contract: body event j is byte 2 + j of the row.
 -- Assumes nothing.
+use mathlib.Core.Path.{refl}
 use Rattle.tables.specs.Layout.{triggerFrom}
 use borrow.Author.Needs.{needs}
 use Rattle.triggers.proofs.event.Statement.{statement}
@@ -25,7 +26,7 @@ byte-requires c κs = search needs
 
 returns : tie.Need-returns
 unfolding triggerFrom
-returns c = cc
+returns c = rw (c .byte .ensures, c .before .index .ensures, c .before .before .row-index .ensures) refl
 
 pub event-spec : {M : Type 1} → statement M
 event-spec =

@@ -1,13 +1,13 @@
--- `rows::some` meets its contract. The loop's invariant: whether an event below b is reached.
+-- `event_rows::some` meets its contract. The loop's invariant: whether an event below b is reached.
 -- Assumes nothing.
 use mathlib.Core.Path.{_≡_}
 use Prim.Native.Nat.{_-_, _≤_}
 use Rattle.theory.specs.Below.{anyBelow}
-use Rattle.rows.specs.Rows.{reaches}
-use Rattle.rows.specs.Laws.Row.{some-none, some-next, some-end}
+use Rattle.event_rows.specs.Row.{reaches}
+use Rattle.event_rows.specs.Laws.Row.{some-none, some-next, some-end}
 use borrow.Author.Needs.{needs}
-use Rattle.rows.proofs.some.Statement.{statement}
-use Rattle.rows.proofs.some.Tie as tie
+use Rattle.event_rows.proofs.some.Statement.{statement}
+use Rattle.event_rows.proofs.some.Tie as tie
 
 abbrev Inv-loop : tie.InvT-loop
 Inv-loop row any₀ b₀ any b = (b ≤ 128) × (any ≡ anyBelow b (reaches row))

@@ -1,12 +1,12 @@
--- `rows::reaches` meets its contract: an event's truth value is read at its number, and a number from 128 on is no event.
+-- `event_rows::reaches` meets its contract: an event's truth value is read at its number, and a number from 128 on is no event.
 -- Assumes nothing.
 use mathlib.Core.Path.{refl}
 use borrow.Author.Tests.{lt-ltb, le-ltb}
 use Rattle.theory.specs.Numbers.{EVENTS}
-use Rattle.rows.specs.Rows.{reaches}
+use Rattle.event_rows.specs.Row.{reaches}
 use borrow.Author.Needs.{needs}
-use Rattle.rows.proofs.reaches.Statement.{statement}
-use Rattle.rows.proofs.reaches.Tie as tie
+use Rattle.event_rows.proofs.reaches.Statement.{statement}
+use Rattle.event_rows.proofs.reaches.Tie as tie
 
 index-requires : tie.Need-index-requires
 index-requires c κs = search needs

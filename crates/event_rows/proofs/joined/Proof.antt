@@ -1,13 +1,13 @@
--- `rows::joined` meets its contract. The loop's invariant: the events of y below b have joined x.
+-- `event_rows::joined` meets its contract. The loop's invariant: the events of y below b have joined x.
 -- Assumes nothing.
 use mathlib.Core.Bool.{Bool, _&&_, _||_}
 use Prim.Native.Nat.{ℕ, _-_, _≤_}
 use lib.Dec.{ltb}
-use Rattle.rows.specs.Rows.{RowIs}
-use Rattle.rows.specs.Laws.Row.{joined-none, joined-next, joined-end}
+use Rattle.event_rows.specs.Row.{RowIs}
+use Rattle.event_rows.specs.Laws.Row.{joined-none, joined-next, joined-end}
 use borrow.Author.Needs.{needs}
-use Rattle.rows.proofs.joined.Statement.{statement}
-use Rattle.rows.proofs.joined.Tie as tie
+use Rattle.event_rows.proofs.joined.Statement.{statement}
+use Rattle.event_rows.proofs.joined.Tie as tie
 
 abbrev Inv-loop : tie.InvT-loop
 Inv-loop y r₀ b₀ r b = (b ≤ 128) × ((f g : ℕ → Bool) → RowIs f r₀ → RowIs g y → RowIs (λ x. f x || (ltb x b && g x)) r)

@@ -15,8 +15,8 @@ use Rattle.theory.specs.Numbers.{EVENTS}
 use Rattle.theory.specs.Below.{anyBelow}
 use Rattle.theory.specs.Laws.Below.{any-intro}
 use Rattle.theory.specs.Laws.Tests.{is-false, same-or}
-use Rattle.rows.specs.Rows.{Row, reaches, RowIs}
-use Rattle.rows.specs.Laws.Changes.{past-event, not-yet, one-more, all-made}
+use Rattle.event_rows.specs.Row.{Row, reaches, RowIs}
+use Rattle.event_rows.specs.Laws.Changes.{past-event, not-yet, one-more, all-made}
 
 -- a row holds what is the same among the events
 pub row-same : {f : ℕ → Bool} {row : Row} (g : ℕ → Bool) → ((b : ℕ) → b < EVENTS → f b ≡ g b) → RowIs f row → RowIs g row

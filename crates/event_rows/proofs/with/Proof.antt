@@ -1,9 +1,9 @@
--- `rows::with` meets its contract: the truth value of b is stored where `on` and b is an event, and else nothing changes.
+-- `event_rows::with` meets its contract: the truth value of b is stored where `on` and b is an event, and else nothing changes.
 -- Assumes nothing.
-use Rattle.rows.specs.Laws.Row.{with-on, with-past, with-off}
+use Rattle.event_rows.specs.Laws.Row.{with-on, with-past, with-off}
 use borrow.Author.Needs.{needs}
-use Rattle.rows.proofs.with.Statement.{statement}
-use Rattle.rows.proofs.with.Tie as tie
+use Rattle.event_rows.proofs.with.Statement.{statement}
+use Rattle.event_rows.proofs.with.Tie as tie
 
 index-requires : tie.Need-index-requires
 index-requires c κs = search needs

@@ -1,0 +1,4 @@
+-- A row of events: which events it reaches.
+pub mod Row
+pub mod Laws
+pub mod Exact
