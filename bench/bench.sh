@@ -125,7 +125,7 @@ bench() {
     part 'a minute' minutes 7 common dense rings uphill graph
     make_input grow-256 # which is dense once more
     part 'a minute with N triggers' minutes 7 grow-0 grow-16 grow-32 grow-64 grow-128 grow-256
-    part 'reading' readings 501
+    part 'reading' readings 2001
     [ -n "$emulator" ] || part 'stack' stacks
     load
 }
