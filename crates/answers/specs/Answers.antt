@@ -1,14 +1,12 @@
--- Document 01's table 'What comes back': the number of each answer, and the values that come with it. Contracts speak of verdicts;
--- what a verdict is in numbers is said here alone: `numberOf` in what a day prints (days/Day), `answered` for `answer_of`. And the order of a line's tests.
+-- Document 01's table 'What comes back': the number of each answer, and the values that come with it. Contracts speak of verdicts, or of what holds one;
+-- what a verdict is in numbers is said here alone: `numberOf` in what a day prints (days/Day), `answered` for `answer_of`.
 -- Assumes nothing.
-use mathlib.Core.Bool.{cond}
 use Prim.Native.Nat.{ℕ}
 use Rattle.answers.specs.declared.Name.{Name}
 use Rattle.answers.specs.declared.Name.the-variants.{Length, Frame, Check, Kind, Field, TooMany, Count, Loop, Request, Last}
 use Rattle.answers.specs.declared.Verdict.{Verdict}
 use Rattle.answers.specs.declared.Verdict.the-variants.{Pass, Refuse}
 use Rattle.answers.specs.declared.Answer.{Answer}
-use Rattle.answers.specs.declared.Tests.{Tests}
 
 -- the number of each refusal
 abbrev pub numberOf : Name → ℕ
@@ -36,18 +34,3 @@ refuse name place = Refuse (record { name = name; place = place })
 unfoldable pub andThen : Verdict → Verdict → Verdict
 andThen Pass later = later
 andThen (Refuse r) later = Refuse r
-
--- the tests of a line, in a sheet and in a tape: the first that fails gives its refusal. The last of them has its name given.
-unfoldable pub inOrder : Tests → Name → ℕ → Verdict
-inOrder t last place =
-    cond (t .framed)
-    (cond (t .checked)
-    (cond (t .kind)
-    (cond (t .room)
-    (cond (t .field)
-    (cond (t .last) Pass (refuse last place))
-    (refuse Field place))
-    (refuse TooMany place))
-    (refuse Kind place))
-    (refuse Check place))
-    (refuse Frame place)

@@ -9,8 +9,7 @@ use Rattle.answers.specs.declared.Name.{Name}
 use Rattle.answers.specs.declared.Refusal.{Refusal}
 use Rattle.answers.specs.declared.Verdict.{Verdict}
 use Rattle.answers.specs.declared.Verdict.the-variants.{Pass, Refuse}
-use Rattle.answers.specs.declared.Tests.{Tests}
-use Rattle.answers.specs.Answers.{refuse, andThen, inOrder}
+use Rattle.answers.specs.Answers.{refuse, andThen}
 
 pub verdict-cases : (v : Verdict) → (v ≡ Pass) ⊎ ((r : Refusal) × (v ≡ Refuse r))
 verdict-cases Pass = inl refl
@@ -30,23 +29,3 @@ pub both-pass : (v w : Verdict) → andThen v w ≡ Pass → (v ≡ Pass) × (w 
 unfolding andThen
 both-pass Pass w e = (refl, e)
 both-pass (Refuse r) w e = no-pass r e
-
--- a line that passes has passed each of its tests
-pub record EachPasses (t : Tests) : Type 0 where
-  pub framed : t .framed ≡ true
-  pub checked : t .checked ≡ true
-  pub kind : t .kind ≡ true
-  pub room : t .room ≡ true
-  pub field : t .field ≡ true
-  pub last : t .last ≡ true
-
-pub each-passes : (t : Tests) (last : Name) (place : ℕ) → inOrder t last place ≡ Pass → EachPasses t
-unfolding inOrder
-each-passes t last place e =
-    let a = cond-pass (t .framed) _ _ _ e in
-    let b = cond-pass (t .checked) _ _ _ (a .1) in
-    let c = cond-pass (t .kind) _ _ _ (b .1) in
-    let d = cond-pass (t .room) _ _ _ (c .1) in
-    let f = cond-pass (t .field) _ _ _ (d .1) in
-    let g = cond-pass (t .last) _ _ _ (f .1) in
-    record { framed = a .0; checked = b .0; kind = c .0; room = d .0; field = f .0; last = g .0 }

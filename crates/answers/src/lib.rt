@@ -1,5 +1,5 @@
 ghost use mathlib.Core.Path.{_≡_};
-ghost use Rattle.answers.specs.Answers.{numberOf, answered, refuse, inOrder};
+ghost use Rattle.answers.specs.Answers.{numberOf, answered};
 
 // The refusals of document 01, 'What comes back', by name.
 pub enum Name {
@@ -68,49 +68,4 @@ pub fn answer_of(verdict: Verdict) -> Answer
             }
         }
     }
-}
-
-// The tests of a line: whether each of them passes. The last is COUNT in a sheet and REQUEST in a tape.
-pub struct Tests {
-    pub framed: bool,
-    pub checked: bool,
-    pub kind: bool,
-    pub room: bool,
-    pub field: bool,
-    pub last: bool,
-}
-
-// A refusal, at its place.
-fn refuse(name: Name, place: u32) -> Verdict
-    ensures { λ r. ⌜ r ≡ refuse name place ⌝ }
-{
-    Verdict::Refuse(Refusal {
-        name: name,
-        place: place,
-    })
-}
-
-// The first test of a line that fails gives its refusal. `last` is the name of the last.
-pub fn in_order(tests: Tests, last: Name, place: u32) -> Verdict
-    ensures { λ r. ⌜ r ≡ inOrder tests last place ⌝ }
-{
-    if !tests.framed {
-        return refuse(Name::Frame, place);
-    }
-    if !tests.checked {
-        return refuse(Name::Check, place);
-    }
-    if !tests.kind {
-        return refuse(Name::Kind, place);
-    }
-    if !tests.room {
-        return refuse(Name::TooMany, place);
-    }
-    if !tests.field {
-        return refuse(Name::Field, place);
-    }
-    if !tests.last {
-        return refuse(last, place);
-    }
-    Verdict::Pass
 }

@@ -20,15 +20,15 @@ use Rattle.theory.specs.Sheet.{GoodOrder, ofRoles, periodicFits, triggerFits}
 use Rattle.theory.specs.Laws.Exact.{exact}
 use Rattle.answers.specs.declared.Name.{Name}
 use Rattle.answers.specs.declared.Verdict.{Verdict}
-use Rattle.answers.specs.declared.Tests.{Tests}
-use Rattle.answers.specs.Answers.{answered, numberOf, inOrder}
+use Rattle.line_order.specs.declared.Tests.{Tests}
+use Rattle.answers.specs.Answers.{answered, numberOf}
+use Rattle.line_order.specs.Order.{inOrder}
 use Rattle.tables.specs.Asked.{flat, requestAt}
 use Rattle.tables.specs.Buffers.{bit, eventsOf, rolesOf}
 use Rattle.tables.specs.Layout.{TRIGGER-BYTES, byteAt, periodicAt, sheetOf, triggerAt, triggersOf, two}
 use Rattle.periodics.specs.declared.PeriodicRow.{PeriodicRow}
 use Rattle.periodics.specs.Rows.{periodicOf}
 use Rattle.masks.specs.Joins.{joinedWhere, joins}
-use Rattle.masks.specs.Masks.{joinedAt}
 use Rattle.due.specs.Due.{dueAt}
 use Rattle.solver.specs.Solved.{Solved}
 use Rattle.waiting.specs.Waiting.{cleared, copied, placeOf}
@@ -136,10 +136,6 @@ answers-number-of name r r′ = exact
 pub answers-answer-of : (verdict : Verdict) → Exact (λ r. r ≡ answered verdict)
 answers-answer-of verdict r r′ = exact
 
--- answers::in_order
-pub answers-in-order : (tests : Tests) (last : Name) (place : ℕ) → Exact (λ r. r ≡ inOrder tests last place)
-answers-in-order tests last place r r′ = exact
-
 -- ---- basic
 
 -- basic::both
@@ -231,10 +227,6 @@ trigger-limits-trigger-fits table i roles r r′ = exact
 -- masks::number
 pub masks-number : (buffer : List ℕ) (i : ℕ) → Exact (λ r. r ≡ getD buffer i 0)
 masks-number buffer i r r′ = exact
-
--- masks::join
-pub masks-join : (buffer : List ℕ) (at p : ℕ) → Exact (λ buffer′. buffer′ ≡ joinedAt buffer at p)
-masks-join buffer at p l l′ = exact
 
 -- masks::join_where
 pub masks-join-where : (buffer : List ℕ) (on : Bool) (at p : ℕ) → Exact (λ buffer′. buffer′ ≡ joinedWhere buffer (record { on = on; at = at; priority = p }))
@@ -447,6 +439,12 @@ row-counts-end-agrees line k periodics triggers r r′ = exact
 pub fields-frame-fits : (k roles : ℕ) (line : List ℕ) → Exact (λ r. r ≡ frameFits k roles (bytesOf line))
 fields-frame-fits k roles line r r′ = exact
 
+-- ---- line_order
+
+-- line_order::in_order
+pub line-order-in-order : (tests : Tests) (name : Name) (place : ℕ) → Exact (λ r. r ≡ inOrder tests name place)
+line-order-in-order tests name place r r′ = exact
+
 -- ---- line_tests
 
 -- line_tests::line_judged
@@ -594,7 +592,7 @@ days-day = days.day-exact
 
 -- ==== WHAT SOME ASK. These are public only because a crate ends there: each asks something of its callers, the functions named, which have shown it. Each is exact as it stands above,
 -- whatever it is called with. Whoever uses the box calls sheet::read_sheet, step::step, entry::step_requests or days::day, which ask nothing.
--- tables::copy_in asks that the row fits: line_acts::put_row, hand_out::copy_out.
+-- tables::copy_in asks that the row fits: line_acts::put_periodic, line_acts::put_trigger, hand_out::copy_out.
 -- prints::put_line asks that the line fits: days::run, days::print_refusal.
 -- keys::chains asks for at most 256 triggers: solver::by_keys.
 -- keys::next asks for a key below 257: solver::by_keys.

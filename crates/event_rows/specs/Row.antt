@@ -1,4 +1,4 @@
--- A row of events. `whole` and `reaches` are all that is said of its inside.
+-- A row of events. `whole` and `reaches` are all that is said of its inside, but that a row without an event is written out where rows begin.
 -- Assumes nothing.
 use mathlib.Core.Path.{_≡_}
 use mathlib.Core.Bool.{Bool, false, _&&_}

@@ -12,7 +12,7 @@ use Rattle.theory.specs.Instant.{allows, met, ready, waitsFor, rolesAfter}
 use Rattle.theory.specs.Graph.{counts, node, drawn, edge}
 use Rattle.theory.specs.Box.{givens, rowAfter}
 use Rattle.theory.specs.Laws.Exists.{fire, round}
-use Rattle.answers.specs.Answers.{inOrder}
+use Rattle.line_order.specs.Order.{inOrder}
 use Rattle.tables.specs.Layout.{periodicAt, triggerFrom, sheetOf}
 use Rattle.tables.specs.Asked.{asks, requestAt}
 use Rattle.text.specs.Framed.{isDigit, framed}

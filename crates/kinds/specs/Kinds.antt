@@ -26,7 +26,7 @@ END = 0xf0
 abbrev pub kind : List ℕ → ℕ
 kind f = byteAt f 0
 
--- how many bytes a frame of this kind has, the kind and the check among them; a trigger with e events and c conditions has 7 + e + c; an unknown kind has no right count
+-- how many bytes a frame of this kind has, the kind and the check among them; a trigger with e events and c conditions has 7 + e + c; an unknown kind has 0, and no framed line has so few
 unfoldable pub sizeOf : ℕ → ℕ → ℕ → ℕ
 sizeOf k e c = cond (eqb k HEADER) 4 (cond (eqb k PERIODIC) 18 (cond (eqb k TRIGGER) (7 + e + c) (cond (eqb k END) 5 0)))
 

@@ -5,8 +5,8 @@ use mathlib.Core.List.{List}
 use Prim.Native.Nat.{ℕ}
 use Rattle.answers.specs.declared.Name.the-variants.{Count}
 use Rattle.answers.specs.declared.Verdict.{Verdict}
-use Rattle.answers.specs.declared.Tests.{Tests}
-use Rattle.answers.specs.Answers.{inOrder}
+use Rattle.line_order.specs.declared.Tests.{Tests}
+use Rattle.line_order.specs.Order.{inOrder}
 use Rattle.text.specs.Framed.{framed}
 use Rattle.frames.specs.Frame.{bytesOf, checked}
 use Rattle.tables.specs.Layout.{byteAt, two}

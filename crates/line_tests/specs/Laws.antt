@@ -7,7 +7,7 @@ use Prim.Native.Nat.{ℕ}
 use Rattle.theory.specs.Laws.Tests.{and-right}
 use Rattle.answers.specs.declared.Name.the-variants.{Count}
 use Rattle.answers.specs.declared.Verdict.the-variants.{Pass}
-use Rattle.answers.specs.Laws.{each-passes}
+use Rattle.line_order.specs.Laws.{each-passes}
 use Rattle.frames.specs.Frame.{bytesOf}
 use Rattle.kinds.specs.Kinds.{kind, sized, mayStand}
 use Rattle.row_counts.specs.Counts.{roomFor}

@@ -1,9 +1,9 @@
 ghost use mathlib.Core.Path.{_≡_};
 ghost use Rattle.line_tests.specs.Judge.{judgeLine};
 use answers::Name;
-use answers::Tests;
 use answers::Verdict;
 use kinds::Stage;
+use line_order::Tests;
 
 // What was read so far: how many lines, which frames may come, the role count, and how many rows of each kind.
 pub struct Seen {
@@ -37,5 +37,5 @@ pub fn line_judged(line: &[u8], s: Seen, place: u32) -> Verdict
         field: field,
         last: count,
     };
-    answers::in_order(tests, Name::Count, place)
+    line_order::in_order(tests, Name::Count, place)
 }

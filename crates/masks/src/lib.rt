@@ -25,7 +25,7 @@ fn with_priority(mask: u16, p: u8) -> u16
 }
 
 // The priority p joins the buffer's number `at`; past the end nothing is written.
-pub fn join(buffer: &mut [u16], at: usize, p: u8)
+fn join(buffer: &mut [u16], at: usize, p: u8)
     ensures { λ _. ⌜ now (buffer .exit) ≡ joinedAt (now (buffer .entry)) at p ⌝ }
 {
     if at < buffer.len() {

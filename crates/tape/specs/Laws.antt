@@ -12,7 +12,7 @@ use Rattle.theory.specs.Laws.Tests.{test}
 use Rattle.answers.specs.declared.Name.the-variants.{Request}
 use Rattle.answers.specs.declared.Refusal.{Refusal}
 use Rattle.answers.specs.declared.Verdict.the-variants.{Pass}
-use Rattle.answers.specs.Laws.{each-passes}
+use Rattle.line_order.specs.Laws.{each-passes}
 use Rattle.text.specs.Framed.{framed}
 use Rattle.frames.specs.Frame.{bytesOf}
 use Rattle.walks.specs.Walks.{Going, goes, refused}
@@ -20,7 +20,7 @@ use Rattle.walks.specs.Laws.{verdict-goes}
 use Rattle.kinds.specs.Kinds.{kind}
 use Rattle.tape_frames.specs.Frame.{ASK, instantOf}
 use Rattle.tape_tests.specs.declared.Heard.{Heard}
-use Rattle.tape_tests.specs.Tape.{ofTape, roomFor, inTime, askFits, tapeTests, judgeTape}
+use Rattle.tape_tests.specs.Tape.{ofTape, roomForRequest, inTime, askFits, tapeTests, judgeTape}
 use Rattle.tape.specs.declared.Tape.{Tape}
 use Rattle.tape.specs.declared.Tape.the-variants.{Goes, Refused}
 use Rattle.tape.specs.Tape.{heardAfter, tapeStep}
@@ -43,7 +43,7 @@ stopped w x r e h = sym (ap took h) ∙ e
 pub record Passed (roles : ℕ) (s : Heard) (l : List ℕ) : Type 0 where
   pub is-framed : framed l ≡ true
   pub of-tape : ofTape s (bytesOf l) ≡ true
-  pub room : roomFor s (bytesOf l) ≡ true
+  pub room : roomForRequest s (bytesOf l) ≡ true
   pub in-time : inTime s (bytesOf l) ≡ true
   pub fit : askFits roles (bytesOf l) ≡ true
 
@@ -54,8 +54,8 @@ passes place roles s l e =
     record { is-framed = a .framed; of-tape = a .kind; room = a .room; in-time = a .field; fit = a .last }
 
 -- room for a request more of the same instant
-pub room-says : (s : Heard) (f : List ℕ) → roomFor s f ≡ true → kind f ≡ ASK → instantOf f ≡ s .instant → s .row < REQUESTS
-unfolding roomFor
+pub room-says : (s : Heard) (f : List ℕ) → roomForRequest s f ≡ true → kind f ≡ ASK → instantOf f ≡ s .instant → s .row < REQUESTS
+unfolding roomForRequest
 room-says s f h k e = ltb-true (s .row) REQUESTS (rw (eq-eqb (kind f) ASK k, eq-eqb (instantOf f) (s .instant) e) at h)
 
 -- one line more

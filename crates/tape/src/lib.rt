@@ -3,7 +3,7 @@ ghost use mathlib.Core.Bool.{true};
 ghost use Prim.Native.Nat.{_≤_, _<_};
 ghost use lib.ListN.{length};
 ghost use Rattle.frames.specs.Frame.{bytesOf};
-ghost use Rattle.tape_tests.specs.Tape.{roomFor};
+ghost use Rattle.tape_tests.specs.Tape.{roomForRequest};
 ghost use Rattle.tape.specs.Tape.{rowWith, heardAfter, tapeStep, tapeEnds, tapeRead};
 ghost use Rattle.tape.specs.Laws.{took};
 use answers::Name;
@@ -32,7 +32,7 @@ fn one_more(s: Heard, t: u32) -> u8
 
 // What was read after a frame that passed.
 fn heard_after(line: &[u8], s: Heard) -> Heard
-    requires { ⌜ (s .line < 131072) × (roomFor s (bytesOf (now line)) ≡ true) ⌝ }
+    requires { ⌜ (s .line < 131072) × (roomForRequest s (bytesOf (now line)) ≡ true) ⌝ }
     ensures { λ r. ⌜ r ≡ heardAfter s (bytesOf (now (line .entry))) ⌝ }
 {
     let t = instant_of(line);

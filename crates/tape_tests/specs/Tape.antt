@@ -8,8 +8,8 @@ use lib.ListN.{length}
 use Rattle.theory.specs.Numbers.{REQUESTS}
 use Rattle.answers.specs.declared.Name.the-variants.{Request}
 use Rattle.answers.specs.declared.Verdict.{Verdict}
-use Rattle.answers.specs.declared.Tests.{Tests}
-use Rattle.answers.specs.Answers.{inOrder}
+use Rattle.line_order.specs.declared.Tests.{Tests}
+use Rattle.line_order.specs.Order.{inOrder}
 use Rattle.text.specs.Framed.{framed}
 use Rattle.frames.specs.Frame.{bytesOf, checked}
 use Rattle.kinds.specs.Kinds.{kind}
@@ -21,7 +21,7 @@ use Rattle.tape_tests.specs.declared.Heard.{Heard}
 abbrev pub LONGEST-DAY : ℕ
 LONGEST-DAY = 10080
 
--- how many bytes a frame of this kind has, the kind and the check among them; an unknown kind has no right count
+-- how many bytes a frame of this kind has, the kind and the check among them; an unknown kind has 0, and no framed line has so few
 unfoldable pub tapeSize : ℕ → ℕ
 tapeSize k = cond (eqb k ASK) 9 (cond (eqb k TAPE-END) 6 0)
 
@@ -30,8 +30,8 @@ unfoldable pub ofTape : Heard → List ℕ → Bool
 ofTape s f = eqb (length f) (tapeSize (kind f)) && not (s .ended)
 
 -- TOO MANY is not given: no 33rd request in a row of one instant
-unfoldable pub roomFor : Heard → List ℕ → Bool
-roomFor s f = cond (eqb (kind f) ASK) (not (eqb (instantOf f) (s .instant)) || ltb (s .row) REQUESTS) true
+unfoldable pub roomForRequest : Heard → List ℕ → Bool
+roomForRequest s f = cond (eqb (kind f) ASK) (not (eqb (instantOf f) (s .instant)) || ltb (s .row) REQUESTS) true
 
 -- FIELD is not given: no instant below the one before; at the end a last instant within the limit and not below the last request's
 unfoldable pub inTime : Heard → List ℕ → Bool
@@ -45,7 +45,7 @@ askFits roles f = cond (eqb (kind f) ASK) (fits roles (askedIn f)) true
 unfoldable pub tapeTests : ℕ → Heard → List ℕ → Tests
 tapeTests roles s l =
     let f : List ℕ = bytesOf l in
-    record { framed = framed l; checked = checked f; kind = ofTape s f; room = roomFor s f; field = inTime s f; last = askFits roles f }
+    record { framed = framed l; checked = checked f; kind = ofTape s f; room = roomForRequest s f; field = inTime s f; last = askFits roles f }
 
 unfoldable pub judgeTape : ℕ → ℕ → Heard → List ℕ → Verdict
 judgeTape place roles s l = inOrder (tapeTests roles s l) Request place

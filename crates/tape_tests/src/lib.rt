@@ -1,13 +1,13 @@
 ghost use mathlib.Core.Path.{_≡_};
 ghost use Rattle.frames.specs.Frame.{bytesOf};
 ghost use Rattle.tape_frames.specs.Frame.{instantOf};
-ghost use Rattle.tape_tests.specs.Tape.{tapeSize, ofTape, roomFor, inTime, askFits, judgeTape};
+ghost use Rattle.tape_tests.specs.Tape.{tapeSize, ofTape, roomForRequest, inTime, askFits, judgeTape};
 use answers::Name;
-use answers::Tests;
 use answers::Verdict;
 use basic::both;
 use basic::either;
 use frames::byte_at;
+use line_order::Tests;
 use tape_frames::asked_in;
 use tape_frames::instant_of;
 
@@ -45,7 +45,7 @@ fn of_tape(line: &[u8], s: Heard) -> bool
 // TOO MANY is not given, for a frame of instant t.
 fn has_room(line: &[u8], t: u32, s: Heard) -> bool
     requires { ⌜ t ≡ instantOf (bytesOf (now line)) ⌝ }
-    ensures { λ r. ⌜ r ≡ roomFor s (bytesOf (now (line .entry))) ⌝ }
+    ensures { λ r. ⌜ r ≡ roomForRequest s (bytesOf (now (line .entry))) ⌝ }
 {
     if byte_at(line, 0) == 64 {
         return either(t != s.instant, s.row < 32);
@@ -93,5 +93,5 @@ pub fn tape_judged(line: &[u8], roles: u8, s: Heard, place: u32) -> Verdict
         field: field,
         last: request,
     };
-    answers::in_order(tests, Name::Request, place)
+    line_order::in_order(tests, Name::Request, place)
 }

@@ -8,7 +8,7 @@ ghost use Rattle.tables.specs.Buffers.{bit, eventsOf};
 ghost use Rattle.keys.specs.Keys.{Chained, Linked};
 ghost use Rattle.turns.specs.Turns.{Keyed, TurnAt, WalkedAt, SettledAt};
 use bodies::met;
-use masks::join;
+use masks::join_where;
 use masks::number;
 use tables::HEAD;
 use tables::PRIORITY;
@@ -41,7 +41,7 @@ fn put(events: &mut [u16], e: u8, p: u8) -> bool
     if has(number(events, at), p) {
         return false;
     }
-    join(events, at, p);
+    join_where(events, true, at, p);
     true
 }
 

@@ -8,7 +8,7 @@ use Rattle.theory.specs.Events.{conf}
 use Rattle.theory.specs.Sheet.{triggerFits}
 use Rattle.theory.specs.Graph.{counts, node, drawn, here, LoopAt}
 use Rattle.answers.specs.declared.Name.the-variants.{Loop}
-use Rattle.answers.specs.Answers.{inOrder}
+use Rattle.line_order.specs.Order.{inOrder}
 use Rattle.tables.specs.Layout.{triggerFrom, sheetOf}
 use Rattle.text.specs.Lines.{lines}
 use Rattle.text.specs.Framed.{isDigit, framed}

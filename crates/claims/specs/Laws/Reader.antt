@@ -20,8 +20,9 @@ use Rattle.answers.specs.declared.Name.the-variants.{Length, Frame, Check, Kind
 use Rattle.answers.specs.declared.Refusal.{Refusal}
 use Rattle.answers.specs.declared.Verdict.{Verdict}
 use Rattle.answers.specs.declared.Verdict.the-variants.{Pass, Refuse}
-use Rattle.answers.specs.declared.Tests.{Tests}
-use Rattle.answers.specs.Answers.{numberOf, answered, refuse, inOrder}
+use Rattle.line_order.specs.declared.Tests.{Tests}
+use Rattle.answers.specs.Answers.{numberOf, answered, refuse}
+use Rattle.line_order.specs.Order.{inOrder}
 use Rattle.text.specs.Lines.{Lines, none, endless, line, lines}
 use Rattle.frames.specs.Frame.{bytesOf}
 use Rattle.walks.specs.Walks.{Going, goes, refused, byVerdict, walks}

@@ -2,7 +2,7 @@
 -- Assumes nothing.
 use mathlib.Core.Path.{_∙_}
 use Rattle.answers.specs.declared.Name.the-variants.{Count}
-use Rattle.answers.specs.Answers.{inOrder}
+use Rattle.line_order.specs.Order.{inOrder}
 use Rattle.line_tests.specs.Judge.{lineTests, judgeLine}
 use borrow.Author.Needs.{needs}
 use Rattle.line_tests.proofs.line_judged.Statement.{statement}

@@ -2,7 +2,7 @@
 -- Assumes nothing.
 use mathlib.Core.Path.{sym, _∙_}
 use borrow.Author.Tests.{eq-eqb, ne-eqb}
-use Rattle.tape_tests.specs.Tape.{roomFor}
+use Rattle.tape_tests.specs.Tape.{roomForRequest}
 use borrow.Author.Needs.{needs}
 use Rattle.tape_tests.proofs.has_room.Statement.{statement}
 use Rattle.tape_tests.proofs.has_room.Tie as tie
@@ -14,12 +14,12 @@ either-requires : tie.Need-either-requires
 either-requires c κs = search needs
 
 returns : tie.Need-returns
-unfolding roomFor
+unfolding roomForRequest
 returns c = let d = c .before .before .before in
     rw (eq-eqb _ _ (sym (d .before .byte-at .ensures) ∙ d .if1 .taken), ← d .before .before .before .pre) (c .either .ensures)
 
 returns-2 : tie.Need-returns-2
-unfolding roomFor
+unfolding roomForRequest
 returns-2 c = rw (ne-eqb _ _ (λ e. c .if1 .left (c .before .byte-at .ensures ∙ e)))
 
 pub has-room-spec : {M : Type 1} → statement M

@@ -2,7 +2,7 @@
 -- Assumes nothing.
 use mathlib.Core.Path.{_∙_}
 use Rattle.answers.specs.declared.Name.the-variants.{Request}
-use Rattle.answers.specs.Answers.{inOrder}
+use Rattle.line_order.specs.Order.{inOrder}
 use Rattle.tape_tests.specs.Tape.{tapeTests, judgeTape}
 use borrow.Author.Needs.{needs}
 use Rattle.tape_tests.proofs.tape_judged.Statement.{statement}

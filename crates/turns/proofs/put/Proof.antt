@@ -35,8 +35,8 @@ returns-3 c =
     let a = i .before .before .before .before .args in
     put-there (a .events .now) (a .e) (a .p) _ _ (i .index .ensures) (m .number .ensures) (i .before .before .if1 .left) (sym (c .before .has .ensures) ∙ c .if3 .taken)
 
-join-requires : tie.Need-join-requires
-join-requires c κs = search needs
+join-where-requires : tie.Need-join-where-requires
+join-where-requires c κs = search needs
 
 same-length-2 : tie.Need-same-length-2
 same-length-2 c = search needs
@@ -48,7 +48,7 @@ returns-4 c =
     let i = m .before .before in
     let b = i .before .before .before .before in
     put-joined (b .args .events .now) (b .args .e) (b .args .p) _ _ (i .index .ensures) (m .number .ensures) (i .before .before .if1 .left)
-    _ (c .before .before .join .ensures) (b .pre) (i .before .if2 .left) (sym (s .before .has .ensures) ∙ s .if3 .left)
+    _ (c .before .before .join-where .ensures) (b .pre) (i .before .if2 .left) (sym (s .before .has .ensures) ∙ s .if3 .left)
 
 pub put-spec : {M : Type 1} → statement M
 put-spec =
@@ -61,6 +61,6 @@ put-spec =
     has-requires
     same-length
     returns-3
-    join-requires
+    join-where-requires
     same-length-2
     returns-4)

@@ -1,10 +1,10 @@
--- `answers::in_order` meets its contract: the tests of the code are those of the definition, in the same order.
+-- `line_order::in_order` meets its contract: the tests of the code are those of the definition, in the same order.
 -- Assumes nothing.
 use borrow.Author.Tests.{not-true, not-false}
-use Rattle.answers.specs.Answers.{inOrder}
+use Rattle.line_order.specs.Order.{inOrder}
 use borrow.Author.Needs.{needs}
-use Rattle.answers.proofs.in_order.Statement.{statement}
-use Rattle.answers.proofs.in_order.Tie as tie
+use Rattle.line_order.proofs.in_order.Statement.{statement}
+use Rattle.line_order.proofs.in_order.Tie as tie
 
 refuse-requires : tie.Need-refuse-requires
 refuse-requires c κs = search needs
