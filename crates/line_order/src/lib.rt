@@ -5,7 +5,7 @@ use answers::Name;
 use answers::Refusal;
 use answers::Verdict;
 
-// The tests of a line: whether each of them passes. The last is COUNT in a sheet and REQUEST in a tape.
+// The tests of a line, in order: whether FRAME, CHECK, KIND, TOO MANY and FIELD are not given, and a last one, which is COUNT in a sheet and REQUEST in a tape.
 pub struct Tests {
     pub framed: bool,
     pub checked: bool,
