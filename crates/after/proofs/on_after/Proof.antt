@@ -1,7 +1,5 @@
 -- `after::on_after` meets its contract: it is the definition's tests.
 -- Assumes nothing.
-use mathlib.Core.Path.{ap, ap₂, _∙_}
-use mathlib.Core.Bool.{not, _&&_, _||_}
 use Rattle.theory.specs.Instant.{rolesAfter}
 use borrow.Author.Needs.{needs}
 use Rattle.after.proofs.on_after.Statement.{statement}
@@ -33,12 +31,7 @@ both-requires c κs = search needs
 
 returns : tie.Need-returns
 unfolding rolesAfter
-returns c =
-    let either = c .before in
-    let role = either .before in
-    let removed = role .before in
-    let added = removed .before in
-    c .both .ensures ∙ ap₂ _&&_ (either .either .ensures ∙ ap₂ _||_ (role .role-on .ensures) (added .live .ensures)) (ap not (removed .live2 .ensures))
+returns c = cc
 
 pub on-after-spec : {M : Type 1} → statement M
 on-after-spec =
