@@ -1,4 +1,4 @@
--- The way there: a row in its table, what a line that passed has, and what was read so far.
+-- The way there: a row in its table, what a line that passed has, and what was read so far; then `Accepted`, the theorems.
 pub mod Rows
 pub mod Tables
 pub mod Fields
@@ -6,3 +6,4 @@ pub mod After
 pub mod SoFar
 pub mod Kept
 pub mod Lines
+pub mod Accepted

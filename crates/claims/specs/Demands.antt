@@ -35,7 +35,7 @@ use Rattle.sheet.specs.Sheet.{reading}
 use Rattle.row_judge.specs.Judge.{Rules, sheetIn}
 use Rattle.requests.specs.Requests.{AllFit}
 use Rattle.step.specs.Outcome.{Lent, Outcome}
-use Rattle.step.specs.Exact
+use Rattle.step.specs.Laws.Exact
 use Rattle.runs.specs.Runs.{Steps, GoesOn, IsPapers}
 use Rattle.runs.specs.Laws.{run-is-papers}
 use Rattle.openings.specs.Opening.{opening}

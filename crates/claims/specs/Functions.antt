@@ -34,9 +34,8 @@ use Rattle.solver.specs.Solved.{Solved}
 use Rattle.waiting.specs.Waiting.{cleared, copied, placeOf}
 use Rattle.delays.specs.Delays.{triggerEntry}
 use Rattle.after.specs.After.{rolesBelow}
-use Rattle.rows.specs.Exact.{wholeRows}
 use Rattle.event_rows.specs.Row.{Row, RowIs, reaches, whole}
-use Rattle.rows.specs.Rows.{Become, edgesOf, linked}
+use Rattle.rows.specs.Rows.{Become, edgesOf, linked, wholeRows}
 use Rattle.edges.specs.Drawing.{addedFrom, drawsBelow, tailOf}
 use Rattle.loops.specs.declared.Found.{Found}
 use Rattle.loops.specs.Tested.{tested}
@@ -58,7 +57,7 @@ use Rattle.line_tests.specs.declared.Seen.{Seen}
 use Rattle.line_tests.specs.Judge.{judgeLine}
 use Rattle.line_acts.specs.Acts.{after, progress}
 use Rattle.lines.specs.declared.Taken.{Taken}
-use Rattle.lines.specs.Exact.{Same}
+use Rattle.lines.specs.Took.{Same}
 use Rattle.lines.specs.Lines.{fresh, reads}
 use Rattle.readings.specs.declared.Reading.{Reading}
 use Rattle.readings.specs.Readings.{verdictOf}
@@ -75,7 +74,7 @@ use Rattle.entry.specs.Listed.{listed}
 use Rattle.tape_tests.specs.declared.Heard.{Heard}
 use Rattle.tape_frames.specs.Frame.{askedIn, instantOf}
 use Rattle.tape_tests.specs.Tape.{judgeTape}
-use Rattle.tape.specs.Laws.{took}
+use Rattle.tape.specs.Took.{took}
 use Rattle.tape.specs.Tape.{tapeRead}
 use Rattle.split.specs.Parted.{parted}
 use Rattle.batches.specs.Batch.{noneYet, rest, takes}
@@ -83,25 +82,25 @@ use Rattle.openings.specs.Planned.{opened, planned}
 use Rattle.day_minute.specs.Minute.{MinuteOutcome}
 use Rattle.days.specs.Day.{DayOutcome}
 use Rattle.lines.specs.Laws.Took
-use Rattle.periodics.specs.Exact as periodics
-use Rattle.solver.specs.Exact as solver
-use Rattle.event_rows.specs.Exact as EventRows
-use Rattle.rows.specs.Exact as Rows
-use Rattle.reach.specs.Exact as reach
-use Rattle.edges.specs.Exact as edges
-use Rattle.line_acts.specs.Exact as line-acts
-use Rattle.lines.specs.Exact as Lines
-use Rattle.hand_out.specs.Exact as hand-out
+use Rattle.periodics.specs.Laws.Exact as periodics
+use Rattle.solver.specs.Laws.Exact as solver
+use Rattle.event_rows.specs.Laws.Exact as EventRows
+use Rattle.rows.specs.Laws.Exact as Rows
+use Rattle.reach.specs.Laws.Exact as reach
+use Rattle.edges.specs.Laws.Exact as edges
+use Rattle.line_acts.specs.Laws.Exact as line-acts
+use Rattle.lines.specs.Laws.Exact as Lines
+use Rattle.hand_out.specs.Laws.Exact as hand-out
 use Rattle.sheet.specs.Laws.Exact as sheet
-use Rattle.requests.specs.Exact as requests
-use Rattle.minute.specs.Exact as minute
-use Rattle.step.specs.Exact as Step
-use Rattle.entry.specs.Exact as entry
-use Rattle.tape_frames.specs.Exact as tape-frames
-use Rattle.tape.specs.Exact as tape
-use Rattle.openings.specs.Exact as openings
-use Rattle.day_minute.specs.Exact as day-minute
-use Rattle.days.specs.Exact as days
+use Rattle.requests.specs.Laws.Exact as requests
+use Rattle.minute.specs.Laws.Exact as minute
+use Rattle.step.specs.Laws.Exact as Step
+use Rattle.entry.specs.Laws.Exact as entry
+use Rattle.tape_frames.specs.Laws.Exact as tape-frames
+use Rattle.tape.specs.Laws.Exact as tape
+use Rattle.openings.specs.Laws.Exact as openings
+use Rattle.day_minute.specs.Laws.Exact as day-minute
+use Rattle.days.specs.Laws.Exact as days
 
 -- any two answers that the contract C allows are equal
 abbrev pub Exact : {A : Type 0} → (A → Type 0) → Type 0

@@ -7,15 +7,14 @@ use lib.ListN.{length}
 use lib.Seq.{paste}
 use Rattle.theory.specs.Events.{Events}
 use Rattle.theory.specs.Model.{noRoles}
-use Rattle.theory.specs.Box.{State, Run}
-use Rattle.theory.specs.Laws.Rows.{traceOf}
+use Rattle.theory.specs.Box.{State, Run, traceOf}
 use Rattle.answers.specs.declared.Verdict.the-variants.{Pass}
 use Rattle.text.specs.Lines.{lines}
 use Rattle.tables.specs.Layout.{PERIODIC-TABLE, TRIGGER-TABLE}
 use Rattle.row_judge.specs.Judge.{Rules, rules, sheetIn, judgeTables}
 use Rattle.tape_tests.specs.Tape.{LONGEST-DAY}
 use Rattle.tape.specs.Tape.{asksIn}
-use Rattle.tape.specs.Accepted.{Fine}
+use Rattle.tape.specs.Fine.{Fine}
 use Rattle.openings.specs.declared.Plan.{Plan}
 use Rattle.openings.specs.Opening.{Opening, opens}
 use Rattle.day_lines.specs.Lines.{minuteLines, LINE, OUTPUT-BYTES}

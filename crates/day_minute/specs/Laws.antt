@@ -1,3 +1,4 @@
 -- What is proved of a minute of a day.
 pub mod Outcome
 pub mod Cursor
+pub mod Exact

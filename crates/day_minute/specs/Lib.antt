@@ -1,4 +1,3 @@
 -- A minute of a day.
 pub mod Minute
 pub mod Laws
-pub mod Exact

@@ -1,4 +1,3 @@
 -- A whole day, from an input's bytes to what is printed.
 pub mod Day
 pub mod Laws
-pub mod Exact

@@ -20,6 +20,7 @@ use Rattle.rows.specs.Rows.{RowsAre, linked}
 use Rattle.event_rows.specs.Laws.Row.{row-same, empty-row}
 use Rattle.rows.specs.Laws.Rows.{rows-same}
 use Rattle.edges.specs.Drawing.{leaves, draws, drawsBelow, addedFrom}
+pub mod Exact
 
 -- ---- some of those below i, one more, and all
 

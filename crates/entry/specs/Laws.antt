@@ -32,6 +32,7 @@ use Rattle.requests.specs.Laws.Flat.{put-before, put-here}
 use Rattle.step.specs.Outcome.{Lent, stateIn, lengthsFit, judgeStep, Outcome}
 use Rattle.step.specs.Laws.Passes.{step-passes}
 use Rattle.entry.specs.Listed.{none, listed, Holds}
+pub mod Exact
 
 -- ---- the flat numbers hold the first i records: none, one more, all
 

@@ -1,4 +1,3 @@
 -- The step over a lent list of request records.
 pub mod Listed
 pub mod Laws
-pub mod Exact

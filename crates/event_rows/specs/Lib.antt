@@ -1,4 +1,3 @@
 -- A row of events: which events it reaches.
 pub mod Row
 pub mod Laws
-pub mod Exact

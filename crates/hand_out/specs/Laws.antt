@@ -22,6 +22,7 @@ use Rattle.line_tests.specs.declared.Seen.{Seen}
 use Rattle.line_acts.specs.Acts.{Progress, progress}
 use Rattle.readings.specs.declared.Reading.the-variants.{Good, Bad}
 use Rattle.hand_out.specs.Out.{readOutcome, sheetRead, handed, byLoop, afterLines}
+pub mod Exact
 
 -- the test looks at the triggers alone
 read-loop : (s : Seen) (per trg : List ℕ) → loopPlace (sheetRead (progress s per trg)) ≡ loopPlace (triggersOf (s .triggers) trg)

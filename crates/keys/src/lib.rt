@@ -1,7 +1,7 @@
 ghost use mathlib.Core.Path.{_≡_};
 ghost use Prim.Native.Nat.{ℕ, _<_, _≤_};
 ghost use Rattle.theory.specs.Numbers.{TRIGGER-ROWS};
-ghost use Rattle.theory.specs.Laws.Stage.{Gap};
+ghost use Rattle.theory.specs.Stage.{Gap};
 ghost use Rattle.keys.specs.Keys.{KEYS, keyIn, Chained};
 use bodies::allows;
 use masks::number;

@@ -13,6 +13,7 @@ use Rattle.theory.specs.Laws.Tests.{test}
 use Rattle.kinds.specs.Kinds.{HEADER, PERIODIC, TRIGGER}
 use Rattle.line_tests.specs.declared.Seen.{Seen}
 use Rattle.line_acts.specs.Acts.{seenAfter, tableAfter}
+pub mod Exact
 
 -- a table after a frame of its kind w, whose row of so many bytes is put at row n, and after any other frame
 pub table-put : (k w n at size : ℕ) (row row′ table : List ℕ) → k ≡ w → row ≡ row′ → length row′ ≡ size → at ≡ size * n → paste table at row (length row) ≡ tableAfter k w n row′ table

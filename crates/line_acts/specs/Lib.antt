@@ -1,4 +1,3 @@
 -- What a frame that passed does to what was read so far.
 pub mod Acts
 pub mod Laws
-pub mod Exact

@@ -1,3 +1,4 @@
 -- What is proved of the lines.
 pub mod Took
 pub mod Lines
+pub mod Exact

@@ -9,7 +9,7 @@ ghost use Rattle.line_acts.specs.Acts.{progress};
 ghost use Rattle.walks.specs.Walks.{goes};
 ghost use Rattle.lines.specs.Line.{lineStep};
 ghost use Rattle.lines.specs.Lines.{atEnd, reads, fresh};
-ghost use Rattle.lines.specs.Laws.Took.{took};
+ghost use Rattle.lines.specs.Took.{took};
 use answers::Name;
 use answers::Refusal;
 use answers::Verdict;

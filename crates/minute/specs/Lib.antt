@@ -1,3 +1,3 @@
 -- The instant's own work: the givens, the solution, what waits, the roles after.
 pub mod Minute
-pub mod Exact
+pub mod Laws

@@ -22,11 +22,13 @@ use Rattle.tape_tests.specs.declared.Heard.{Heard}
 use Rattle.tape.specs.declared.Tape.{Tape}
 use Rattle.tape.specs.declared.Tape.the-variants.{Goes, Refused}
 use Rattle.tape.specs.Tape.{tapeRead}
-use Rattle.tape.specs.Laws.{took, went, stopped}
+use Rattle.tape.specs.Took.{took}
+use Rattle.tape.specs.Laws.Line.{went, stopped}
 use Rattle.openings.specs.declared.Opened.{Opened}
 use Rattle.openings.specs.declared.Opened.the-variants.{Opens, Refuses}
 use Rattle.openings.specs.Opening.{INPUT-BYTES, sheetReading}
 use Rattle.openings.specs.Planned.{Zeros, opened, byHeard, byTape, bySheet, byReading, planned}
+pub mod Exact
 
 -- ---- the tape
 

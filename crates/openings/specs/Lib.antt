@@ -2,4 +2,3 @@
 pub mod Opening
 pub mod Planned
 pub mod Laws
-pub mod Exact

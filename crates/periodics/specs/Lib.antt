@@ -1,3 +1,3 @@
 -- The fields of a periodic row, read from its table.
 pub mod Rows
-pub mod Exact
+pub mod Laws

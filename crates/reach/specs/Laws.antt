@@ -20,6 +20,7 @@ use Rattle.event_rows.specs.Laws.Changes.{not-yet, one-more, all-made}
 use Rattle.event_rows.specs.Laws.Row.{row-same}
 use Rattle.rows.specs.Laws.Rows.{rows-same, rows-say, rows-set}
 use Rattle.reach.specs.Reach.{takenOver, via}
+pub mod Exact
 
 -- ---- one row takes over another
 

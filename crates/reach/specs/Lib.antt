@@ -1,4 +1,3 @@
 -- The reach: rows of edges closed, so that each event has the row of events that it reaches.
 pub mod Reach
 pub mod Laws
-pub mod Exact

@@ -20,6 +20,7 @@ use Rattle.tables.specs.Asked.{Asked, asks}
 use Rattle.answers.specs.Answers.{refuse}
 use Rattle.requests.specs.Requests.{outside, firstOutside, judgeRequests, AllFit}
 pub mod Flat
+pub mod Exact
 
 -- ---- what is asked for
 

@@ -3,4 +3,3 @@ pub mod Requests
 pub mod Asked
 pub mod Flat
 pub mod Laws
-pub mod Exact

@@ -1,2 +1,3 @@
 -- What is proved of the definitions, and what the proofs use in place of their text.
 pub mod Rows
+pub mod Exact

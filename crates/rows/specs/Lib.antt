@@ -1,4 +1,3 @@
 -- The array of rows, one per event: which events each reaches.
 pub mod Rows
 pub mod Laws
-pub mod Exact

@@ -8,11 +8,15 @@ use lib.Dec.{eqb, ltb}
 use lib.ListN.{length, getD}
 use Rattle.theory.specs.Numbers.{EVENTS}
 use Rattle.theory.specs.Graph.{Edges}
-use Rattle.event_rows.specs.Row.{Row, reaches, RowIs}
+use Rattle.event_rows.specs.Row.{Row, whole, reaches, RowIs}
 
 -- the rows as edges: a is an event and its row reaches b
 unfoldable pub edgesOf : List Row → Edges
 edgesOf rows a b = ltb a EVENTS && reaches (getD rows a []) b
+
+-- the rows are there, one for each event, and each is whole
+abbrev pub wholeRows : List Row → Type 0
+wholeRows rows = (length rows ≡ EVENTS) × ((a : ℕ) → a < EVENTS → whole (getD rows a []))
 
 -- the rows hold the graph E
 pub record RowsAre (E : Edges) (rows : List Row) : Type 0 where

@@ -3,3 +3,4 @@ pub mod Buffers
 pub mod Passes
 pub mod Acted
 pub mod Whole
+pub mod Exact

@@ -2,4 +2,3 @@
 pub mod Outcome
 pub mod Parts
 pub mod Laws
-pub mod Exact

@@ -9,6 +9,7 @@ use native.Mathlib.Omega.{arith}
 use lib.ListN.{length, getD, set, drop-of-length-le}
 use lib.Seq.{paste, paste-suc, take-length}
 use Rattle.tables.specs.Layout.{TRIGGER-BYTES, byteAt, triggerFrom, triggerAt}
+pub mod Sample
 
 -- ---- the single bytes of a trigger, as `trigger_byte` reads them
 

@@ -2,5 +2,4 @@
 pub mod Layout
 pub mod Buffers
 pub mod Asked
-pub mod Sample
 pub mod Laws

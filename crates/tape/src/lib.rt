@@ -5,7 +5,7 @@ ghost use lib.ListN.{length};
 ghost use Rattle.frames.specs.Frame.{bytesOf};
 ghost use Rattle.tape_tests.specs.Tape.{roomForRequest};
 ghost use Rattle.tape.specs.Tape.{rowWith, heardAfter, tapeStep, tapeEnds, tapeRead};
-ghost use Rattle.tape.specs.Laws.{took};
+ghost use Rattle.tape.specs.Took.{took};
 use answers::Name;
 use answers::Refusal;
 use answers::Verdict;

@@ -1,3 +1,3 @@
 -- What a frame of a tape says.
 pub mod Frame
-pub mod Exact
+pub mod Laws

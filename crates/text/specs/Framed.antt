@@ -15,6 +15,10 @@ abbrev pub firstBad : List ℕ → ℕ
 firstBad [] = 0
 firstBad (c ∷ l) = cond (isDigit c) (suc (firstBad l)) 0
 
+-- each is a digit
+abbrev pub allDigits : List ℕ → Bool
+allDigits l = eqb (firstBad l) (length l)
+
 -- FRAME is not given for a line's characters: it is not empty, each is a digit, and their count is even (the final 0A is looked for where the lines are read)
 unfoldable pub framed : List ℕ → Bool
-framed l = cond (eqb (length l) 0) false (cond (eqb (firstBad l) (length l)) (eqb (length l % 2) 0) false)
+framed l = cond (eqb (length l) 0) false (cond (allDigits l) (eqb (length l % 2) 0) false)

@@ -2,9 +2,8 @@ ghost use mathlib.Core.Path.{_≡_};
 ghost use mathlib.Core.Bool.{true};
 ghost use Prim.Native.Nat.{_+_, _≤_};
 ghost use lib.ListN.{length, drop};
-ghost use Rattle.text.specs.Framed.{isDigit, framed};
+ghost use Rattle.text.specs.Framed.{isDigit, framed, allDigits};
 ghost use Rattle.text.specs.Lines.{span};
-ghost use Rattle.text.specs.Laws.Framed.{allDigits};
 
 // None of the eight characters from i on is a 0A. (No character ends the loop: the compiler takes all eight at once.)
 fn no_end(text: &[u8], i: usize) -> bool

@@ -55,6 +55,10 @@ Within sh RQ = (t d e p : ℕ) → RQ t d e p ≡ true → requestFits (sh .role
 
 -- ---- what the theorems say of runs
 
+-- the states and events of a box that steps on for ever
+abbrev pub traceOf : (ℕ → State) → (ℕ → Events) → Trace
+traceOf state events = record { EV = events; ST = λ t. state t .roles }
+
 -- the same instant, roles and rows
 pub record SameState (a b : State) : Type 0 where
   pub instant : a .instant ≡ b .instant

@@ -1,6 +1,7 @@
 -- Events, conditions, conflict, and what blocks what: document 01, 'Numbers' and the first rule of 'One instant' (004, definition 3.6).
 -- Assumes nothing.
-use mathlib.Core.Bool.{Bool, not, cond, _&&_}
+use mathlib.Core.Path.{_≡_}
+use mathlib.Core.Bool.{Bool, true, not, cond, _&&_}
 use Prim.Native.Nat.{ℕ, _+_, _-_, _*_, _/_, _%_}
 use lib.Dec.{leb, ltb, eqb}
 use Rattle.theory.specs.Numbers.{PRIORITIES}
@@ -9,6 +10,10 @@ use Rattle.theory.specs.Below.{anyBelow}
 -- A set of prioritized events: `S e p ≡ true` says that p:e is in S.
 abbrev pub Events : Type 0
 Events = ℕ → ℕ → Bool
+
+-- X is part of Y
+abbrev pub Part : Events → Events → Type 0
+Part X Y = (e p : ℕ) → X e p ≡ true → Y e p ≡ true
 
 -- A set of roles: `ST r ≡ true` says that role r is enabled.
 abbrev pub Roles : Type 0

@@ -9,4 +9,5 @@ pub mod Graph
 pub mod Model
 pub mod Box
 pub mod LoopTest
+pub mod Stage
 pub mod Laws

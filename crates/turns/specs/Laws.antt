@@ -10,7 +10,8 @@ use borrow.Author.Tests.{lt-ltb}
 use Rattle.theory.specs.Numbers.{EVENTS, PRIORITIES}
 use Rattle.theory.specs.Events.{Events}
 use Rattle.theory.specs.Instant.{met}
-use Rattle.theory.specs.Laws.Stage.{Turn, Walked, turn-idle, turn-added, walked-none, walked-turn, walked-past}
+use Rattle.theory.specs.Stage.{Turn, Walked}
+use Rattle.theory.specs.Laws.Stage.{turn-idle, turn-added, walked-none, walked-turn, walked-past}
 use Rattle.tables.specs.Layout.{sheetOf, triggerAt, triggersOf}
 use Rattle.tables.specs.Buffers.{bit, eventsOf}
 use Rattle.masks.specs.Masks.{joinedAt}

@@ -6,7 +6,7 @@ use mathlib.Core.List.{List}
 use Prim.Native.Nat.{ℕ, _≤_, _<_}
 use Rattle.theory.specs.Events.{Events}
 use Rattle.theory.specs.Instant.{met}
-use Rattle.theory.specs.Laws.Stage.{Turn, Walked, Keeps, Settled}
+use Rattle.theory.specs.Stage.{Turn, Walked, Keeps, Settled}
 use Rattle.tables.specs.Layout.{triggerAt, triggersOf}
 use Rattle.tables.specs.Buffers.{eventsOf}
 use Rattle.keys.specs.Keys.{KEYS, Chained}

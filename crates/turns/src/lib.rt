@@ -3,7 +3,7 @@ ghost use mathlib.Core.Bool.{true};
 ghost use Prim.Native.Nat.{ℕ};
 ghost use lib.ListN.{length};
 ghost use Rattle.theory.specs.Numbers.{EVENTS};
-ghost use Rattle.theory.specs.Laws.Stage.{Turn};
+ghost use Rattle.theory.specs.Stage.{Turn};
 ghost use Rattle.tables.specs.Buffers.{bit, eventsOf};
 ghost use Rattle.keys.specs.Keys.{Chained, Linked};
 ghost use Rattle.turns.specs.Turns.{Keyed, TurnAt, WalkedAt, SettledAt};

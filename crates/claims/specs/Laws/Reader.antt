@@ -39,7 +39,7 @@ use Rattle.readings.specs.declared.Reading.the-variants.{Good, Bad}
 use Rattle.readings.specs.Readings.{verdictOf}
 use Rattle.hand_out.specs.Out.{ReadOutcome, readOutcome, sheetRead, handed, byLoop, afterLines}
 use Rattle.sheet.specs.Sheet.{start, byLines, lengthsFit, reading}
-use Rattle.accepted.specs.Accepted.{start-so-far}
+use Rattle.accepted.specs.Laws.Accepted.{start-so-far}
 use Rattle.accepted.specs.Laws.Lines.{read-so-far}
 use Rattle.claims.specs.Words.{ReadsInOrder}
 use Rattle.claims.specs.Laws.Numbers.{no-other}

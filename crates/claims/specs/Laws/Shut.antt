@@ -20,7 +20,7 @@ use Rattle.masks.specs.Laws.Bits.{bit-none}
 use Rattle.masks.specs.Laws.Held.{roles-one, waiting-none, waiting-one}
 use Rattle.frames.specs.Frame.{value}
 use Rattle.requests.specs.Requests.{fits, AllFit}
-use Rattle.accepted.specs.Accepted.{reading-good, reading-sizes}
+use Rattle.accepted.specs.Laws.Accepted.{reading-good, reading-sizes}
 use Rattle.step.specs.Outcome.{Lent, lent, stateIn, judgeStep, Outcome}
 use Rattle.runs.specs.Runs.{FreshLent, HandedOn, Steps}
 use Rattle.examples.specs.Written.{_∶_, Prioritized, among, first, rolesIn, rowsIn, stateOf}

@@ -34,11 +34,11 @@ use Rattle.requests.specs.Requests.{AllFit}
 use Rattle.requests.specs.Laws.{requests-pass}
 use Rattle.minute.specs.Minute.{refilled}
 use Rattle.step.specs.Outcome.{Lent, lent, judgeStep, Stepped, Outcome}
-use Rattle.step.specs.Exact.{step-exact, one-buffer-served}
+use Rattle.step.specs.Laws.Exact.{step-exact, one-buffer-served}
 use Rattle.step.specs.Laws.Buffers.{rows-size, rows-are}
 use Rattle.step.specs.Laws.Passes.{Accepted, step-passes}
 use Rattle.tape.specs.Tape.{asksIn}
-use Rattle.tape.specs.Accepted.{fine-within}
+use Rattle.tape.specs.Laws.Accepted.{fine-within}
 use Rattle.openings.specs.declared.Plan.{Plan}
 use Rattle.openings.specs.declared.Opened.{Opened}
 use Rattle.openings.specs.declared.Opened.the-variants.{Opens, Refuses}
@@ -48,7 +48,7 @@ use Rattle.days.specs.declared.Printed.{Printed}
 use Rattle.day_lines.specs.Lines.{minuteLines, OUTPUT-BYTES}
 use Rattle.day_lines.specs.Run.{rulesOf, openingOf}
 use Rattle.days.specs.Day.{Prints, answerTo, DayOutcome}
-use Rattle.days.specs.Exact.{prints-one, day-exact}
+use Rattle.days.specs.Laws.Exact.{prints-one, day-exact}
 use Rattle.days.specs.Laws.Opened.{Opens-to, plan-opens, plan-refuses}
 
 -- ---- a step

@@ -13,8 +13,7 @@ use Rattle.theory.specs.Sheet.{Sheet, GoodOrder}
 use Rattle.theory.specs.Events.{Events, Roles, nonblocked}
 use Rattle.theory.specs.Instant.{Requests}
 use Rattle.theory.specs.Graph.{NoLoop}
-use Rattle.theory.specs.Box.{State, Step, SameState}
-use Rattle.theory.specs.Laws.Rows.{traceOf}
+use Rattle.theory.specs.Box.{State, Step, SameState, traceOf}
 use Rattle.theory.specs.Laws.Run.{step-same}
 use Rattle.answers.specs.declared.Verdict.the-variants.{Pass}
 use Rattle.text.specs.Lines.{Lines, lines}

@@ -23,7 +23,8 @@ use Rattle.requests.specs.Flat.{FLAT-NUMBERS, putAt}
 use Rattle.requests.specs.Laws.Flat.{put-before, put-here, put-size}
 use Rattle.tape_frames.specs.Frame.{askedIn}
 use Rattle.tape.specs.Tape.{lineAsks, asksIn}
-use Rattle.tape.specs.Accepted.{isAsk, at, more, Fine, line-asks}
+use Rattle.tape.specs.Fine.{isAsk, at, more, Fine}
+use Rattle.tape.specs.Laws.Accepted.{line-asks}
 use Rattle.batches.specs.declared.Batch.{Batch}
 use Rattle.batches.specs.Batch.{isOf, taken, takes, rest, noneYet}
 

@@ -9,8 +9,7 @@ use lib.Seq.{paste}
 use Rattle.theory.specs.Sheet.{Sheet, GoodOrder}
 use Rattle.theory.specs.Graph.{NoLoop}
 use Rattle.theory.specs.Model.{Stream, noRoles}
-use Rattle.theory.specs.Box.{Within}
-use Rattle.theory.specs.Laws.Rows.{traceOf}
+use Rattle.theory.specs.Box.{Within, traceOf}
 use Rattle.theory.specs.Laws.Run.{run-exists, canonical-run}
 use Rattle.answers.specs.declared.Refusal.{Refusal}
 use Rattle.answers.specs.declared.Verdict.the-variants.{Pass, Refuse}
@@ -24,7 +23,7 @@ use Rattle.prints.specs.Laws.Lengths.{length-line}
 use Rattle.printed_frames.specs.Frames.{refusalFrame}
 use Rattle.printed_frames.specs.Laws.Lengths.{length-refusal}
 use Rattle.tape.specs.Tape.{asksIn}
-use Rattle.tape.specs.Accepted.{fine-within}
+use Rattle.tape.specs.Laws.Accepted.{fine-within}
 use Rattle.openings.specs.declared.Plan.{Plan}
 use Rattle.openings.specs.Opening.{refuses}
 use Rattle.day_lines.specs.Lines.{minuteLines, LINE}

@@ -20,13 +20,14 @@ use Rattle.readings.specs.declared.Read.{Read}
 use Rattle.readings.specs.declared.Reading.{Reading}
 use Rattle.readings.specs.declared.Reading.the-variants.{Good, Bad}
 use Rattle.hand_out.specs.Out.{ReadOutcome, readOutcome}
-use Rattle.accepted.specs.Accepted.{reading-passes}
+use Rattle.accepted.specs.Laws.Accepted.{reading-passes}
 use Rattle.split.specs.Split.{sheetBytes, sheetLines, sheetPart, tapePart}
 use Rattle.split.specs.Laws.{sheet-bytes-le}
 use Rattle.tape_tests.specs.declared.Heard.{Heard}
 use Rattle.tape_tests.specs.Tape.{LONGEST-DAY}
 use Rattle.tape.specs.Tape.{tapeRead, unheard}
-use Rattle.tape.specs.Accepted.{Fine, accepted-fine, accepted-last}
+use Rattle.tape.specs.Fine.{Fine}
+use Rattle.tape.specs.Laws.Accepted.{accepted-fine, accepted-last}
 use Rattle.openings.specs.declared.Plan.{Plan}
 use Rattle.openings.specs.declared.Opened.{Opened}
 use Rattle.openings.specs.declared.Opened.the-variants.{Opens, Refuses}

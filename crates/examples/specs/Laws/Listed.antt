@@ -8,12 +8,11 @@ use lib.Dec.{eqb}
 use lib.ListN.{length, getD}
 use borrow.Author.Tests.{eqb-true}
 use Rattle.theory.specs.Below.{anyBelow, allBelow}
-use Rattle.theory.specs.Events.{Events}
+use Rattle.theory.specs.Events.{Events, Part}
 use Rattle.theory.specs.Sheet.{is}
 use Rattle.theory.specs.Box.{row}
 use Rattle.theory.specs.Laws.Tests.{and-left, and-right}
 use Rattle.theory.specs.Laws.Below.{any-elim, all-elim}
-use Rattle.theory.specs.Laws.Instant.{Part}
 use Rattle.theory.specs.Laws.Exists.{is-only}
 use Rattle.tables.specs.Asked.{Asked, asks}
 use Rattle.examples.specs.Written.{Prioritized, at, first, among, Waits, waitAt, rolesIn, rowsIn}

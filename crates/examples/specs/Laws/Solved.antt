@@ -8,12 +8,11 @@ use Prim.Native.Nat.{ℕ, zero, suc, _≤_, _<_}
 use native.Mathlib.Omega.{arith}
 use lib.ListN.{length}
 use Rattle.theory.specs.Below.{allBelow}
-use Rattle.theory.specs.Events.{Events, Roles}
+use Rattle.theory.specs.Events.{Events, Roles, Part}
 use Rattle.theory.specs.Sheet.{Sheet}
 use Rattle.theory.specs.Instant.{immediate, allows, met, ready, Closed, IsLeast, Solves}
 use Rattle.theory.specs.Laws.Tests.{and-left, and-right, and-both, bool-ext, not-both}
 use Rattle.theory.specs.Laws.Below.{below-cases, all-elim}
-use Rattle.theory.specs.Laws.Instant.{Part}
 use Rattle.theory.specs.Laws.Exists.{round, round-closed}
 use Rattle.examples.specs.Written.{Prioritized, at, first, among}
 use Rattle.examples.specs.Passes.{_⇒_, selfCaused}

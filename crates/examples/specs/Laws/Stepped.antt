@@ -11,14 +11,13 @@ use lib.ListN.{length, getD}
 use borrow.Author.Tests.{ltb-true, ltb-false, lt-ltb, eqb-true, eq-eqb}
 use Rattle.theory.specs.Numbers.{ROLES, EVENTS, WAITING-ROWS}
 use Rattle.theory.specs.Below.{anyBelow, allBelow}
-use Rattle.theory.specs.Events.{Events, disable, enable, nonblocked}
+use Rattle.theory.specs.Events.{Events, disable, enable, nonblocked, Part}
 use Rattle.theory.specs.Sheet.{Sheet, GoodOrder, rowDue, due}
 use Rattle.theory.specs.Instant.{allows, met, ready, waitsFor, rolesAfter}
 use Rattle.theory.specs.Graph.{NoLoop}
 use Rattle.theory.specs.Box.{State, row, givens, rowAfter, Step}
 use Rattle.theory.specs.Laws.Tests.{and-left, and-right, and-both, or-cases, test, is-false, bool-ext}
 use Rattle.theory.specs.Laws.Below.{any-elim, all-elim}
-use Rattle.theory.specs.Laws.Instant.{Part}
 use Rattle.theory.specs.Laws.OneSolution.{one-solution}
 use Rattle.theory.specs.Laws.History.{Sent, waits-later, waits-cases}
 use Rattle.theory.specs.Laws.Run.{step-same}

@@ -9,10 +9,7 @@ use Rattle.line_acts.specs.Acts.{Progress, progress}
 use Rattle.lines.specs.declared.Taken.{Taken}
 use Rattle.lines.specs.declared.Taken.the-variants.{Goes, Refused}
 use Rattle.walks.specs.Walks.{Going, goes, refused}
-
-abbrev pub took : Taken → List ℕ → List ℕ → Going Progress
-took (Goes s) p t = goes (progress s p t)
-took (Refused r) p t = refused r
+use Rattle.lines.specs.Took.{took}
 
 -- what the lines made, by what came back
 pub went : (w : Taken) (p t : List ℕ) (x : Going Progress) (s : Seen) → took w p t ≡ x → w ≡ Goes s → goes (progress s p t) ≡ x

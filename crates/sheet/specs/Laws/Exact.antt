@@ -6,7 +6,7 @@ use Prim.Native.Nat.{ℕ}
 use Rattle.theory.specs.Laws.Exact.{exact}
 use Rattle.readings.specs.declared.Reading.{Reading}
 use Rattle.hand_out.specs.Out.{readOutcome}
-use Rattle.hand_out.specs.Exact.{outcome-one}
+use Rattle.hand_out.specs.Laws.Exact.{outcome-one}
 use Rattle.sheet.specs.Sheet.{reading}
 
 pub read-sheet-exact : (sheet p t : List ℕ) (a a′ : Reading) (p₁ p₂ t₁ t₂ : List ℕ)

@@ -3,7 +3,7 @@
 use mathlib.Core.Path.{sym, _∙_}
 use borrow.Author.Tests.{eq-eqb, ne-eqb}
 use Rattle.tape.specs.Tape.{heardAfter}
-use Rattle.tape.specs.Laws.{room-says}
+use Rattle.tape.specs.Laws.Line.{room-says}
 use borrow.Author.Needs.{needs}
 use Rattle.tape.proofs.heard_after.Statement.{statement}
 use Rattle.tape.proofs.heard_after.Tie as tie

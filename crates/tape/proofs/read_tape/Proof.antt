@@ -9,7 +9,7 @@ use Rattle.text.specs.Laws.Lines.{end-le}
 use Rattle.walks.specs.Walks.{goes, walks}
 use Rattle.walks.specs.Laws.{walks-endless, walks-none, turn-goes, turn-stops}
 use Rattle.tape.specs.Tape.{tapeReader, tapeRead}
-use Rattle.tape.specs.Laws.{went, stopped, line-next}
+use Rattle.tape.specs.Laws.Line.{went, stopped, line-next}
 use native.Mathlib.Omega.{arith}
 use borrow.Author.Needs.{needs}
 use Rattle.tape.proofs.read_tape.Statement.{statement}

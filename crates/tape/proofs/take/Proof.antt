@@ -3,7 +3,7 @@
 use mathlib.Core.Path.{sym, ap, _∙_}
 use Rattle.walks.specs.Walks.{goes, byVerdict}
 use Rattle.tape.specs.Tape.{tapeStep}
-use Rattle.tape.specs.Laws.{passes}
+use Rattle.tape.specs.Laws.Line.{passes}
 use borrow.Author.Needs.{needs}
 use Rattle.tape.proofs.take.Statement.{statement}
 use Rattle.tape.proofs.take.Tie as tie

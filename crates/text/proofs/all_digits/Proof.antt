@@ -4,7 +4,8 @@ use mathlib.Core.Path.{_≡_}
 use mathlib.Core.Bool.{_&&_}
 use Prim.Native.Nat.{_-_, _≤_}
 use lib.ListN.{length, drop}
-use Rattle.text.specs.Laws.Framed.{allDigits, all-next, all-end}
+use Rattle.text.specs.Framed.{allDigits}
+use Rattle.text.specs.Laws.Framed.{all-next, all-end}
 use borrow.Author.Needs.{needs}
 use Rattle.text.proofs.all_digits.Statement.{statement}
 use Rattle.text.proofs.all_digits.Tie as tie

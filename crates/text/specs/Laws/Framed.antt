@@ -5,12 +5,12 @@ use mathlib.Core.Bool.{Bool, true, false, _&&_, _||_, Bool·beq, and-true, and-a
 use mathlib.Core.Logic.{⊎-elim}
 use mathlib.Core.List.{List, _∷_}
 use Prim.Native.Nat.{ℕ, _+_, _≤_, _<_}
-use lib.Dec.{leb, eqb, eqb·zero-suc, eqb·suc-suc}
+use lib.Dec.{leb, eqb·zero-suc, eqb·suc-suc}
 use lib.ListN.{length, getD, drop, drop-of-length-le}
 use Rattle.theory.specs.Below.{allBelow}
 use Rattle.theory.specs.Laws.Below.{all-elim}
 use Rattle.theory.specs.Laws.Tests.{test}
-use Rattle.text.specs.Framed.{isDigit, firstBad}
+use Rattle.text.specs.Framed.{isDigit, firstBad, allDigits}
 use Rattle.text.specs.Laws.Lines.{here}
 
 -- ---- the digits are two ranges of characters: tried at each of the 256
@@ -26,9 +26,6 @@ unfolding allBelow isDigit
 two-ranges c h = same _ _ (all-elim 256 (λ x. Bool·beq (leb 48 x && leb x 57 || leb 65 x && leb x 70) (isDigit x)) refl c h)
 
 -- ---- whether all characters are digits: those before i, and those from i on
-
-abbrev pub allDigits : List ℕ → Bool
-allDigits l = eqb (firstBad l) (length l)
 
 all-cons : (c : ℕ) (l : List ℕ) → allDigits (c ∷ l) ≡ (isDigit c && allDigits l)
 all-cons c l =

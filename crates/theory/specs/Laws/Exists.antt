@@ -9,13 +9,14 @@ use native.Mathlib.Omega.{arith}
 use lib.Dec.{eqb}
 use borrow.Author.Tests.{eqb-true, eq-eqb, not-false}
 use Rattle.theory.specs.Below.{anyBelow, countBelow}
-use Rattle.theory.specs.Events.{Events}
+use Rattle.theory.specs.Events.{Events, Part}
 use Rattle.theory.specs.Sheet.{Trigger, Sheet, is}
 use Rattle.theory.specs.Instant.{met, Closed, IsLeast}
 use Rattle.theory.specs.Laws.Tests.{and-left, and-right, and-both, or-left, or-right, or-cases, or-none-left, or-none-right}
 use Rattle.theory.specs.Laws.Below.{any-intro, any-elim, all-or, count-le, count-strict}
-use Rattle.theory.specs.Laws.Instant.{Part, met-mono}
-use Rattle.theory.specs.Laws.Unique.{Stratified, AgreeBelow, caused-agree}
+use Rattle.theory.specs.Laws.Instant.{met-mono}
+use Rattle.theory.specs.Stage.{Stratified, AgreeBelow}
+use Rattle.theory.specs.Laws.Unique.{caused-agree}
 
 abbrev pub none : Events
 none e p = false

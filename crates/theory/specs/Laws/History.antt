@@ -10,13 +10,13 @@ use native.Mathlib.Omega.{arith}
 use lib.Dec.{eqb, ltb}
 use borrow.Author.Tests.{eqb-true, eq-eqb, ne-eqb, ltb-true, ltb-false, lt-ltb, le-ltb}
 use Rattle.theory.specs.Below.{anyBelow}
-use Rattle.theory.specs.Events.{Events, Roles}
+use Rattle.theory.specs.Events.{Events, Roles, Part}
 use Rattle.theory.specs.Sheet.{Trigger, Sheet, due}
 use Rattle.theory.specs.Instant.{Requests, allows, met, ready, Closed, Solves, waitsFor}
 use Rattle.theory.specs.Model.{Stream, Trace, Meets, IsCausedIn}
 use Rattle.theory.specs.Laws.Tests.{and-left, and-right, and-both, or-left, or-right, or-cases, test}
 use Rattle.theory.specs.Laws.Below.{below-cases, any-intro, any-elim}
-use Rattle.theory.specs.Laws.Instant.{Part, met-mono}
+use Rattle.theory.specs.Laws.Instant.{met-mono}
 use Rattle.theory.specs.Laws.Exists.{headIs, is-self}
 
 -- ---- what comes to wait for d instants later

@@ -4,15 +4,11 @@ use mathlib.Core.Path.{_≡_, refl, sym, ap, _∙_}
 use mathlib.Core.Bool.{true, not, _&&_}
 use Prim.Native.Nat.{ℕ, _<_}
 use Rattle.theory.specs.Numbers.{PRIORITIES}
-use Rattle.theory.specs.Events.{Events, conf, blocked, nonblocked}
+use Rattle.theory.specs.Events.{Events, Part, conf, blocked, nonblocked}
 use Rattle.theory.specs.Sheet.{Trigger}
 use Rattle.theory.specs.Instant.{met}
 use Rattle.theory.specs.Laws.Tests.{and-left, and-right, and-both}
 use Rattle.theory.specs.Laws.Below.{any-map, all-map}
-
--- X is part of Y
-abbrev pub Part : Events → Events → Type 0
-Part X Y = (e p : ℕ) → X e p ≡ true → Y e p ≡ true
 
 -- what blocks p:e are members of the conflicting event alone
 blocked-same : (S S′ : Events) (e p : ℕ) → S (conf e) ≡ S′ (conf e) → blocked S e p ≡ blocked S′ e p

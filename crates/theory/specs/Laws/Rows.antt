@@ -14,7 +14,7 @@ use Rattle.theory.specs.Events.{Events, Roles}
 use Rattle.theory.specs.Sheet.{Sheet}
 use Rattle.theory.specs.Instant.{Requests, waitsFor}
 use Rattle.theory.specs.Model.{Stream, Trace}
-use Rattle.theory.specs.Box.{State, row, rowAfter, Step, Fresh, Within}
+use Rattle.theory.specs.Box.{State, row, rowAfter, Step, Fresh, Within, traceOf}
 use Rattle.theory.specs.Laws.Tests.{and-left, and-right, and-both, is-false, bool-ext}
 use Rattle.theory.specs.Laws.Below.{below-cases, any-intro, any-elim}
 use Rattle.theory.specs.Laws.Limits.{request-says}
@@ -23,10 +23,6 @@ use Rattle.theory.specs.Laws.History.{Sent, waits-later, waits-cases, wa
 -- no trigger waits longer than the longest delay
 abbrev pub ShortDelays : Sheet → Type 0
 ShortDelays sh = (i : ℕ) → i < sh .triggerCount → sh .trigger i .delay ≤ LONGEST-DELAY
-
--- the states and events of a box that steps on for ever
-abbrev pub traceOf : (ℕ → State) → (ℕ → Events) → Trace
-traceOf state events = record { EV = events; ST = λ t. state t .roles }
 
 -- ---- the rows after a step, from any state
 

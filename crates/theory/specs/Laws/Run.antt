@@ -14,12 +14,12 @@ use Rattle.theory.specs.Sheet.{Sheet, GoodOrder, due}
 use Rattle.theory.specs.Instant.{Requests, Solves, waitsFor, rolesAfter}
 use Rattle.theory.specs.Graph.{NoLoop}
 use Rattle.theory.specs.Model.{Stream, Trace, ExecutionModel, noRoles}
-use Rattle.theory.specs.Box.{State, row, givens, rowAfter, Step, Fresh, Run, Within, SameState, Follows}
+use Rattle.theory.specs.Box.{State, row, givens, rowAfter, Step, Fresh, Run, Within, SameState, Follows, traceOf}
 use Rattle.theory.specs.Laws.Below.{below-cases, any-same}
 use Rattle.theory.specs.Laws.Exists.{none}
 use Rattle.theory.specs.Laws.OneSolution.{good-trigger, one-solution}
 use Rattle.theory.specs.Laws.History.{waitsFrom, waits, givensAt, solves-caused, caused-solves}
-use Rattle.theory.specs.Laws.Rows.{ShortDelays, traceOf, rows-stand}
+use Rattle.theory.specs.Laws.Rows.{ShortDelays, rows-stand}
 
 -- ---- a box that steps on for ever is an execution model
 

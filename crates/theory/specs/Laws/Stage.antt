@@ -2,41 +2,28 @@
 -- block such a body lies on lower levels and is final, and what is added later changes no body on this level: at the end the set solves S = Caused(S).
 -- Assumes nothing.
 use mathlib.Core.Path.{_≡_, refl, sym, ap, _∙_, fun-ext, subst}
-use mathlib.Core.Logic.{_⊎_, inl, inr, ⊎-elim}
-use mathlib.Core.Bool.{Bool, true, false, cond, _&&_, _||_, and-false, true≢false, false≢true}
+use mathlib.Core.Logic.{inl, inr, ⊎-elim}
+use mathlib.Core.Bool.{Bool, true, false, _&&_, _||_, and-false, true≢false, false≢true}
 use Prim.Native.Nat.{ℕ, suc, _+_, _*_, _/_, _%_, _≤_, _<_}
 use native.Mathlib.Nat.{eq-or-lt-of-le}
 use native.Mathlib.Numerals.{add-one}
 use native.Mathlib.Omega.{arith}
-use lib.Dec.{eqb, ltb}
+use lib.Dec.{eqb}
 use borrow.Author.Tests.{eqb-true, lt-ltb}
 use Rattle.theory.specs.Numbers.{EVENTS, PRIORITIES}
-use Rattle.theory.specs.Below.{countBelow}
-use Rattle.theory.specs.Events.{Events, Roles, conf}
+use Rattle.theory.specs.Events.{Events, Roles, conf, Part}
 use Rattle.theory.specs.Sheet.{Trigger, Sheet, GoodOrder, is}
-use Rattle.theory.specs.Instant.{allows, met, ready, Closed, IsLeast}
+use Rattle.theory.specs.Instant.{allows, met, ready, IsLeast}
 use Rattle.theory.specs.Graph.{counts, Levels}
 use Rattle.theory.specs.Laws.Tests.{and-left, and-both, or-left, or-right, or-cases, or-none-left, or-none-right, test, not-both, bool-ext}
 use Rattle.theory.specs.Laws.Below.{below-cases, lt-or-le, count-le, count-mono, count-strict}
-use Rattle.theory.specs.Laws.Instant.{Part, met-map}
-use Rattle.theory.specs.Laws.Unique.{Stratified, AgreeBelow}
+use Rattle.theory.specs.Laws.Instant.{met-map}
+use Rattle.theory.specs.Stage.{Stratified, AgreeBelow, prioritized, MEMBERS, sizeOf, Turn, Done, Keys, keyOf, Settled, Gap, Keeps, Walked, Reached}
 use Rattle.theory.specs.Laws.Exists.{is-self, is-only}
 use Rattle.theory.specs.Laws.Levels.{up, up-head, ready-counts}
 use Rattle.theory.specs.Laws.OneSolution.{good-trigger, good-heads}
 
 -- ---- how many members: what the walks of one level end by
-
--- p:e is a prioritized event: an event of 0 to 127 with a priority of 0 to 15
-abbrev pub prioritized : ℕ → ℕ → Bool
-prioritized e p = ltb e EVENTS && ltb p PRIORITIES
-
--- the prioritized events, as one number each
-abbrev pub MEMBERS : ℕ
-MEMBERS = EVENTS * PRIORITIES
-
--- how many prioritized events are in X
-unfoldable pub sizeOf : Events → ℕ
-sizeOf X = countBelow MEMBERS (λ k. X (k / PRIORITIES) (k % PRIORITIES))
 
 pub size-most : (X : Events) → sizeOf X ≤ MEMBERS
 unfolding sizeOf
@@ -61,14 +48,6 @@ size-more X X′ e p le lp s f t =
 
 -- ---- a trigger's turn
 
--- A trigger's turn: where it acts its head p:e joins X, which becomes X′. `new` says whether that was an addition.
-pub record Turn (acts : Bool) (X : Events) (e p : ℕ) (new : Bool) (X′ : Events) : Type 0 where
-  pub grows : Part X X′
-  pub only : (a b : ℕ) → X′ a b ≡ true → (X a b ≡ true) ⊎ ((acts ≡ true) × (is e p a b ≡ true))
-  pub there : acts ≡ true → prioritized e p ≡ true → X′ e p ≡ true
-  pub same : new ≡ false → X′ ≡ X
-  pub more : new ≡ true → sizeOf X < sizeOf X′
-
 -- nothing is added where the trigger does not act, where its head is no prioritized event, and where that is there already
 pub turn-idle : (acts : Bool) (X : Events) (e p : ℕ) → (acts ≡ true → prioritized e p ≡ true → X e p ≡ true) → Turn acts X e p false X
 turn-idle acts X e p h = record { grows = λ a b x. x; only = λ a b x. inl x; there = h; same = λ _. refl; more = λ t. absurd (false≢true t) }
@@ -91,14 +70,6 @@ turn-added X X′ e p le lp f h =
     }
 
 -- ---- the invariant
-
--- THE INVARIANT. X holds the givens; it is closed for the triggers whose heads stand below level m; and it is part of every set that is closed under any S that
--- agrees with X below m.
-pub record Done (sh : Sheet) (on : ℕ → Bool) (G : Events) (level : ℕ → ℕ) (m : ℕ) (X : Events) : Type 0 where
-  pub given : Part G X
-  pub closed : (i : ℕ) → i < sh .triggerCount → on i ≡ true → level (sh .trigger i .head) < m → met X X (sh .trigger i) ≡ true
-      → X (sh .trigger i .head) (sh .trigger i .priority) ≡ true
-  pub least : (S Y : Events) → AgreeBelow level m X S → Closed sh on G S Y → Part X Y
 
 module _ (sh : Sheet) (on : ℕ → Bool) (G : Events) (level : ℕ → ℕ) (st : Stratified sh on level) where
   -- a turn of a trigger that acts only on level m changes nothing below it
@@ -148,17 +119,6 @@ module _ (sh : Sheet) (on : ℕ → Bool) (G : Events) (level : ℕ → ℕ) (st
 
 -- ---- keys
 
--- What a program keeps for each trigger is its key: the level of its head, which is not 0, or 0 where it cannot fire at this instant. (And heads are prioritized events.)
-pub record Keys (sh : Sheet) (on : ℕ → Bool) (level key : ℕ → ℕ) : Type 0 where
-  pub acts : (i : ℕ) → i < sh .triggerCount → on i ≡ true → key i ≡ level (sh .trigger i .head)
-  pub above : (i : ℕ) → i < sh .triggerCount → on i ≡ true → 0 < level (sh .trigger i .head)
-  pub idle : (i : ℕ) → i < sh .triggerCount → on i ≡ false → key i ≡ 0
-  pub fits : (i : ℕ) → i < sh .triggerCount → on i ≡ true → prioritized (sh .trigger i .head) (sh .trigger i .priority) ≡ true
-
--- THE KEYS of the solver: one more than the level of the head, and 0 where the trigger does not count or its conditions do not all hold.
-unfoldable pub keyOf : Sheet → Roles → (ℕ → ℕ) → ℕ → ℕ
-keyOf sh ST level i = cond (counts sh i && allows ST (sh .trigger i)) (suc (level (sh .trigger i .head))) 0
-
 -- its cases
 module _ (sh : Sheet) (ST : Roles) (level : ℕ → ℕ) (i : ℕ) where
   pub key-uncounted : counts sh i ≡ false → 0 ≡ keyOf sh ST level i
@@ -192,15 +152,6 @@ keys-are sh ST level key good lv h =
       fits = λ i l o. and-both (lt-ltb _ _ (good-heads sh good i l)) (lt-ltb _ _ (good-trigger sh good i l .priority));
     }
 
--- of the triggers below n, those of key m have nothing to add to X
-abbrev pub Settled : Sheet → (ℕ → ℕ) → ℕ → Events → ℕ → Type 0
-Settled sh key m X n = (i : ℕ) → i < n → key i ≡ m → prioritized (sh .trigger i .head) (sh .trigger i .priority) ≡ true → met X X (sh .trigger i) ≡ true
-    → X (sh .trigger i .head) (sh .trigger i .priority) ≡ true
-
--- none of the triggers below n has a key between k and r
-abbrev pub Gap : (ℕ → ℕ) → ℕ → ℕ → ℕ → Type 0
-Gap key n k r = (i : ℕ) → i < n → (key i ≤ k) ⊎ (r ≤ key i)
-
 -- no trigger has the key r
 pub gap-wider : (key : ℕ → ℕ) (n k r : ℕ) → Gap key n k r → ((i : ℕ) → i < n → ¬ (key i ≡ r)) → Gap key n k (r + 1)
 gap-wider key n k r g none i l =
@@ -222,17 +173,6 @@ pub turn-met : (X : Events) (g : Trigger) (e p : ℕ) (new : Bool) (X′ : Event
 turn-met X g e p new X′ h u v t = rw (h, ← u, ← v) t
 
 -- ---- a walk over the triggers of one key
-
--- What makes X′ of X keeps the invariant of level m: from any givens, whichever triggers can fire, under any levels of which these are the keys.
-abbrev pub Keeps : Sheet → (ℕ → ℕ) → ℕ → Events → Events → Type 0
-Keeps sh key m X X′ = (on : ℕ → Bool) (G : Events) (level : ℕ → ℕ) → Stratified sh on level → Keys sh on level key → Done sh on G level m X → Done sh on G level m X′
-
--- a walk over the triggers below n, from X to X′; `new` says whether something was added
-pub record Walked (sh : Sheet) (key : ℕ → ℕ) (m : ℕ) (X : Events) (n : ℕ) (new : Bool) (X′ : Events) : Type 0 where
-  pub keeps : Keeps sh key m X X′
-  pub settled : new ≡ false → Settled sh key m X′ n
-  pub most : sizeOf X ≤ sizeOf X′
-  pub more : new ≡ true → sizeOf X < sizeOf X′
 
 module _ (sh : Sheet) (key : ℕ → ℕ) (m : ℕ) (X : Events) where
   pub walked-none : Walked sh key m X 0 false X
@@ -273,10 +213,6 @@ module _ (sh : Sheet) (key : ℕ → ℕ) (m : ℕ) (X : Events) where
       }
 
 -- ---- the keys in order
-
--- From the givens G the key k is reached in X: whichever triggers can fire, under any levels of which these are the keys.
-abbrev pub Reached : Sheet → (ℕ → ℕ) → Events → ℕ → Events → Type 0
-Reached sh key G k X = (on : ℕ → Bool) (level : ℕ → ℕ) → Stratified sh on level → Keys sh on level key → Done sh on G level k X
 
 module _ (sh : Sheet) (key : ℕ → ℕ) (G : Events) where
   -- before the first key

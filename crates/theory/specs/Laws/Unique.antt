@@ -4,24 +4,16 @@
 use mathlib.Core.Path.{_≡_, sym, fun-ext}
 use mathlib.Core.Logic.{⊎-elim}
 use mathlib.Core.Bool.{Bool, true, false, not, _&&_, _||_}
-use Prim.Native.Nat.{ℕ, zero, suc, _≤_, _<_}
+use Prim.Native.Nat.{ℕ, zero, suc, _≤_}
 use native.Mathlib.Omega.{arith}
 use lib.Dec.{leb}
 use borrow.Author.Tests.{leb-true, le-leb}
 use Rattle.theory.specs.Events.{Events, conf}
 use Rattle.theory.specs.Sheet.{Sheet}
 use Rattle.theory.specs.Instant.{Closed, IsLeast}
+use Rattle.theory.specs.Stage.{Stratified, AgreeBelow}
 use Rattle.theory.specs.Laws.Tests.{and-left, and-right, and-both, or-left, or-right, test, fails-not, bool-ext}
 use Rattle.theory.specs.Laws.Instant.{met-map, met-mono}
-
--- For each trigger that `on` passes, the head stands no lower than a body event and above what conflicts with one.
-abbrev pub Stratified : Sheet → (ℕ → Bool) → (ℕ → ℕ) → Type 0
-Stratified sh on level = (i j : ℕ) → i < sh .triggerCount → on i ≡ true → j < sh .trigger i .eventCount
-    → (level (sh .trigger i .event j) ≤ level (sh .trigger i .head)) × (level (conf (sh .trigger i .event j)) < level (sh .trigger i .head))
-
--- S and S′ have the same members of each event below level k
-abbrev pub AgreeBelow : (ℕ → ℕ) → ℕ → Events → Events → Type 0
-AgreeBelow level k S S′ = (e : ℕ) → level e < k → S e ≡ S′ e
 
 -- the members of X, of which those at the levels up to k are in X′ too
 upTo : (ℕ → ℕ) → ℕ → Events → Events → Events

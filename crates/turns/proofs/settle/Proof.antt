@@ -4,7 +4,8 @@ use mathlib.Core.Path.{_≡_, refl, _∙_}
 use Prim.Native.Nat.{ℕ, _-_}
 use lib.ListN.{length}
 use borrow.Author.Tests.{not-true, not-false}
-use Rattle.theory.specs.Laws.Stage.{MEMBERS, sizeOf, size-most, Keeps}
+use Rattle.theory.specs.Stage.{MEMBERS, sizeOf, Keeps}
+use Rattle.theory.specs.Laws.Stage.{size-most}
 use Rattle.tables.specs.Layout.{triggersOf}
 use Rattle.tables.specs.Buffers.{eventsOf}
 use Rattle.keys.specs.Keys.{Chained}

@@ -8,7 +8,7 @@ use Rattle.theory.specs.Laws.Exact.{exact}
 use Rattle.tape.specs.declared.Tape.{Tape}
 use Rattle.tape.specs.declared.Tape.the-variants.{Goes, Refused}
 use Rattle.tape.specs.Tape.{tapeRead}
-use Rattle.tape.specs.Laws.{took}
+use Rattle.tape.specs.Took.{took}
 
 took-one : (r r′ : Tape) → took r ≡ took r′ → r ≡ r′
 took-one (Goes s) (Goes s′) e = cc

@@ -7,7 +7,7 @@ use Rattle.theory.specs.Laws.Exact.{exact}
 use Rattle.frames.specs.Frame.{bytesOf}
 use Rattle.requests.specs.declared.Request.{Request}
 use Rattle.requests.specs.Asked.{requestOf}
-use Rattle.requests.specs.Exact.{request-one}
+use Rattle.requests.specs.Laws.Exact.{request-one}
 use Rattle.tape_frames.specs.Frame.{askedIn}
 
 pub asked-in-exact : (line : List ℕ) (r r′ : Request) → requestOf r ≡ askedIn (bytesOf line) → requestOf r′ ≡ askedIn (bytesOf line) → r ≡ r′

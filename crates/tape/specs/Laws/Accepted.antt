@@ -4,7 +4,7 @@ use mathlib.Core.Path.{_≡_, refl, sym, ap, _∙_, subst, subst₂}
 use mathlib.Core.Logic.{⊎-elim}
 use mathlib.Core.Bool.{Bool, true, false, not, cond, _&&_, false≢true}
 use mathlib.Core.List.{List}
-use Prim.Native.Nat.{ℕ, _+_, _%_, _≤_, _<_}
+use Prim.Native.Nat.{ℕ, _%_, _≤_, _<_}
 use native.Mathlib.Omega.{arith}
 use lib.Dec.{leb, eqb}
 use lib.ListN.{length}
@@ -26,26 +26,8 @@ use Rattle.tape_frames.specs.Frame.{ASK, TAPE-END, instantOf, askedIn}
 use Rattle.tape_tests.specs.declared.Heard.{Heard}
 use Rattle.tape_tests.specs.Tape.{LONGEST-DAY, tapeSize, ofTape, inTime, askFits}
 use Rattle.tape.specs.Tape.{rowWith, heardAfter, tapeEnds, tapeReader, lineAsks, asksIn}
-use Rattle.tape.specs.Laws.{Passed, took-line, room-says}
-
--- a line is a request
-abbrev pub isAsk : List ℕ → Bool
-isAsk l = eqb (kind (bytesOf l)) ASK
-
-abbrev pub at : List ℕ → ℕ
-at l = instantOf (bytesOf l)
-
--- how many requests in a row are of the instant of this line, when n before it were of t
-abbrev pub more : ℕ → ℕ → ℕ → ℕ
-more t n u = cond (eqb u t) (n + 1) 1
-
--- lines that go on after n requests in a row of instant t
-abbrev pub Fine : ℕ → ℕ → ℕ → Lines → Type 0
-Fine roles t n none = Unit {0}
-Fine roles t n (endless l) = Unit {0}
-Fine roles t n (line l ls) =
-    (isAsk l ≡ true → (t ≤ at l) × (at l ≡ t → n < REQUESTS) × (fits roles (askedIn (bytesOf l)) ≡ true) × Fine roles (at l) (more t n (at l)) ls)
-    × (isAsk l ≡ false → ls ≡ none)
+use Rattle.tape.specs.Fine.{isAsk, at, more, Fine}
+use Rattle.tape.specs.Laws.Line.{Passed, took-line, room-says}
 
 where-true : {A : Type 0} (b : Bool) (x y : A) → b ≡ true → cond b x y ≡ x
 where-true b x y e = rw e refl

@@ -12,12 +12,7 @@ use Rattle.lines.specs.declared.Taken.{Taken}
 use Rattle.lines.specs.declared.Taken.the-variants.{Goes, Refused}
 use Rattle.walks.specs.Walks.{goes}
 use Rattle.lines.specs.Lines.{reads, fresh}
-use Rattle.lines.specs.Laws.Took.{took}
-
--- the answer, and the tables where it goes on
-abbrev pub Same : Taken → Taken → List ℕ → List ℕ → List ℕ → List ℕ → Type 0
-Same (Goes s) r′ p₁ p₂ t₁ t₂ = (r′ ≡ Goes s) × (p₁ ≡ p₂) × (t₁ ≡ t₂)
-Same (Refused r) r′ p₁ p₂ t₁ t₂ = r′ ≡ Refused r
+use Rattle.lines.specs.Took.{took, Same}
 
 took-one : (r r′ : Taken) (p₁ p₂ t₁ t₂ : List ℕ) → took r p₁ t₁ ≡ took r′ p₂ t₂ → Same r r′ p₁ p₂ t₁ t₂
 took-one (Goes s) (Goes s′) p₁ p₂ t₁ t₂ e =

@@ -29,7 +29,7 @@ use Rattle.readings.specs.declared.Reading.the-variants.{Good, Bad}
 use Rattle.row_judge.specs.Judge.{judgeTables}
 use Rattle.judge.specs.Laws.{judge-refuses-not}
 use Rattle.hand_out.specs.Out.{ReadOutcome, readOutcome, sheetRead, handed, byLoop, afterLines}
-use Rattle.hand_out.specs.Exact.{outcome-one}
+use Rattle.hand_out.specs.Laws.Exact.{outcome-one}
 use Rattle.sheet.specs.Sheet.{start, byLines, lengthsFit, reading}
 use Rattle.accepted.specs.Laws.SoFar.{SoFar}
 use Rattle.accepted.specs.Laws.Lines.{read-so-far}

@@ -5,8 +5,8 @@ use mathlib.Core.List.{List}
 use Rattle.theory.specs.Numbers.{EVENTS}
 use Rattle.theory.specs.LoopTest.{through}
 use Rattle.event_rows.specs.Row.{Row}
-use Rattle.rows.specs.Rows.{Become}
-use Rattle.rows.specs.Exact.{wholeRows, become-exact}
+use Rattle.rows.specs.Rows.{Become, wholeRows}
+use Rattle.rows.specs.Laws.Exact.{become-exact}
 
 pub closed-exact : (edges r r′ : List Row) → wholeRows edges → Become (λ E. through E EVENTS) edges r → Become (λ E. through E EVENTS) edges r′ → r ≡ r′
 closed-exact edges = become-exact (λ E. through E EVENTS) edges

@@ -7,7 +7,7 @@ use Rattle.theory.specs.Laws.Exact.{exact}
 use Rattle.tables.specs.Asked.{flat}
 use Rattle.row_judge.specs.Judge.{Rules}
 use Rattle.step.specs.Outcome.{Lent}
-use Rattle.step.specs.Exact.{step-exact}
+use Rattle.step.specs.Laws.Exact.{step-exact}
 use Rattle.day_minute.specs.declared.Turn.{Turn}
 use Rattle.day_minute.specs.Minute.{batchAt, MinuteOutcome}
 

@@ -5,14 +5,14 @@ use mathlib.Core.Bool.{Bool}
 use mathlib.Core.List.{List, []}
 use Prim.Native.Nat.{ℕ, _<_}
 use native.Mathlib.Omega.{arith}
-use lib.ListN.{length, getD}
+use lib.ListN.{getD}
 use lib.Seq.{ext-getD}
 use borrow.Author.Tests.{lt-ltb}
 use Rattle.theory.specs.Numbers.{EVENTS}
 use Rattle.theory.specs.Graph.{Edges}
-use Rattle.event_rows.specs.Row.{Row, whole}
-use Rattle.event_rows.specs.Exact.{row-one}
-use Rattle.rows.specs.Rows.{edgesOf, RowsAre, Become, linked}
+use Rattle.event_rows.specs.Row.{Row}
+use Rattle.event_rows.specs.Laws.Exact.{row-one}
+use Rattle.rows.specs.Rows.{edgesOf, wholeRows, RowsAre, Become, linked}
 
 -- two arrays of rows that hold the same graph are equal
 rows-one : (E : Edges) (r r′ : List Row) → RowsAre E r → RowsAre E r′ → r ≡ r′
@@ -21,10 +21,6 @@ rows-one E r r′ h h′ =
     (λ a l.
     let m : a < EVENTS = omega (arith, h .size) in
     row-one (E a) (getD r a []) (getD r′ a []) (h .each a m) (h′ .each a m))
-
--- the rows are there, one for each event, and each is whole
-abbrev pub wholeRows : List Row → Type 0
-wholeRows rows = (length rows ≡ EVENTS) × ((a : ℕ) → a < EVENTS → whole (getD rows a []))
 
 rows-own : (rows : List Row) → wholeRows rows → RowsAre (edgesOf rows) rows
 unfolding edgesOf

@@ -6,7 +6,7 @@ use Rattle.answers.specs.declared.Verdict.{Verdict}
 use Rattle.row_judge.specs.Judge.{Rules}
 use Rattle.requests.specs.declared.Request.{Request}
 use Rattle.step.specs.Outcome.{Lent, Outcome}
-use Rattle.step.specs.Exact.{step-exact}
+use Rattle.step.specs.Laws.Exact.{step-exact}
 use Rattle.entry.specs.Listed.{listed}
 
 pub step-requests-exact : (R : Rules) (rs : List Request) (before : Lent) (v v′ : Verdict) (a a′ : Lent) → Outcome R (listed rs) before v a → Outcome R (listed rs) before v′ a′ → (v ≡ v′) × (a ≡ a′)

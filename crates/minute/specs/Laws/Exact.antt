@@ -15,7 +15,7 @@ use Rattle.tables.specs.Asked.{Asked}
 use Rattle.masks.specs.Laws.Joins.{writes-size}
 use Rattle.masks.specs.Laws.Fill.{joins-size}
 use Rattle.after.specs.After.{rolesBelow}
-use Rattle.solver.specs.Exact.{solve-exact}
+use Rattle.solver.specs.Laws.Exact.{solve-exact}
 use Rattle.minute.specs.Minute.{filled, refilled, Acted}
 
 module _ (roleCount periodicCount triggerCount : ℕ) (periodics triggers : List ℕ) (q : Asked) (levels : List ℕ) (t roles : ℕ) (w l : List ℕ) where

@@ -1,0 +1,2 @@
+-- What is proved of the instant's own work.
+pub mod Exact

@@ -1,0 +1,2 @@
+-- What is proved of a periodic row's fields.
+pub mod Exact

@@ -1,0 +1,2 @@
+-- What is proved of a tape's frames.
+pub mod Exact
