@@ -81,7 +81,7 @@ use Rattle.batches.specs.Batch.{noneYet, rest, takes}
 use Rattle.openings.specs.Planned.{opened, planned}
 use Rattle.day_minute.specs.Minute.{MinuteOutcome}
 use Rattle.days.specs.Day.{DayOutcome}
-use Rattle.lines.specs.Laws.Took
+use Rattle.lines.specs.Took
 use Rattle.periodics.specs.Laws.Exact as periodics
 use Rattle.solver.specs.Laws.Exact as solver
 use Rattle.event_rows.specs.Laws.Exact as EventRows

@@ -11,18 +11,37 @@ use Rattle.text.specs.Lines.{Lines, none, endless, line, lines}
 unfoldable pub beginsEnd : List ℕ → Bool
 beginsEnd l = eqb (getD l 0 0) 70 && eqb (getD l 1 0) 48
 
--- how many bytes, and how many lines, stand up to and with the first line that begins so; all of them where there is none
-unfoldable pub sheetBytes : Lines → ℕ
-sheetBytes none = 0
-sheetBytes (endless l) = length l
-sheetBytes (line l ls) = length l + 1 + cond (beginsEnd l) 0 (sheetBytes ls)
+-- THE SPLIT, of the lines of an input: those up to and with the first that begins so, and all of them where there is none;
+unfoldable pub upToEnd : Lines → Lines
+upToEnd none = none
+upToEnd (endless l) = endless l
+upToEnd (line l ls) = line l (cond (beginsEnd l) none (upToEnd ls))
 
-unfoldable pub sheetLines : Lines → ℕ
-sheetLines none = 0
-sheetLines (endless l) = 1
-sheetLines (line l ls) = 1 + cond (beginsEnd l) 0 (sheetLines ls)
+-- and those after it
+unfoldable pub afterEnd : Lines → Lines
+afterEnd none = none
+afterEnd (endless l) = none
+afterEnd (line l ls) = cond (beginsEnd l) ls (afterEnd ls)
 
--- THE TWO PARTS of an input
+-- how many bytes lines have, their ends among them, and how many lines they are
+unfoldable pub bytesIn : Lines → ℕ
+bytesIn none = 0
+bytesIn (endless l) = length l
+bytesIn (line l ls) = length l + 1 + bytesIn ls
+
+unfoldable pub linesIn : Lines → ℕ
+linesIn none = 0
+linesIn (endless l) = 1
+linesIn (line l ls) = 1 + linesIn ls
+
+-- the bytes and the lines of the sheet
+abbrev pub sheetBytes : Lines → ℕ
+sheetBytes ls = bytesIn (upToEnd ls)
+
+abbrev pub sheetLines : Lines → ℕ
+sheetLines ls = linesIn (upToEnd ls)
+
+-- THE TWO PARTS of an input. (Their lines are `upToEnd` and `afterEnd` of its lines: `sheet-lines` and `tape-lines`, split/Laws/Parts.)
 abbrev pub sheetPart : List ℕ → List ℕ
 sheetPart input = take (sheetBytes (lines input)) input
 

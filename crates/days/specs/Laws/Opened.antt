@@ -22,7 +22,7 @@ use Rattle.readings.specs.declared.Reading.the-variants.{Good, Bad}
 use Rattle.hand_out.specs.Out.{ReadOutcome, readOutcome}
 use Rattle.accepted.specs.Laws.Accepted.{reading-passes}
 use Rattle.split.specs.Split.{sheetBytes, sheetLines, sheetPart, tapePart}
-use Rattle.split.specs.Laws.{sheet-bytes-le}
+use Rattle.split.specs.Laws.Parts.{sheet-bytes-le}
 use Rattle.tape_tests.specs.declared.Heard.{Heard}
 use Rattle.tape_tests.specs.Tape.{LONGEST-DAY}
 use Rattle.tape.specs.Tape.{tapeRead, unheard}

@@ -6,7 +6,7 @@ use lib.ListN.{length, drop}
 use Rattle.text.specs.Lines.{lines}
 use Rattle.text.specs.Laws.Lines.{end-le}
 use Rattle.split.specs.Parted.{parted}
-use Rattle.split.specs.Laws.{parted-none, parted-endless, parted-here, parted-next}
+use Rattle.split.specs.Laws.Loop.{parted-none, parted-endless, parted-here, parted-next}
 use native.Mathlib.Omega.{arith}
 use borrow.Author.Needs.{needs}
 use Rattle.split.proofs.split.Statement.{statement}

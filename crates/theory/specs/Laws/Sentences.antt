@@ -1,7 +1,7 @@
 -- Document 01's sentences on events, blocking, due, edges and the roles after, once more as statements about numbers: each says what a definition's test means, so that a
 -- definition that says something else is refused here.
 -- Assumes nothing.
-use mathlib.Core.Path.{_≡_, refl, sym, ap, _∙_}
+use mathlib.Core.Path.{_≡_, refl, sym, ap, _∙_, subst₂}
 use mathlib.Core.Logic.{_⊎_, inl, inr, ⊎-elim, _↔_}
 use mathlib.Core.Bool.{Bool, true, false, not, _&&_, _||_, and-true, or-false}
 use Prim.Native.Nat.{ℕ, _+_, _-_, _*_, _/_, _%_, _≤_, _<_}
@@ -11,12 +11,14 @@ use borrow.Author.Tests.{ltb-true, lt-ltb, leb-true, leb-false, le-leb, eqb-true
 use Rattle.theory.specs.Numbers.{PRIORITIES, NO-END}
 use Rattle.theory.specs.Events.{Events, Roles, disable, enable, odd, conf, holds, blocks, blocked, nonblocked}
 use Rattle.theory.specs.Sheet.{Periodic, Trigger, Sheet, is, untilEnd, rowDue, due}
-use Rattle.theory.specs.Instant.{Requests, allows, rolesAfter}
+use Rattle.theory.specs.Instant.{Requests, allows, met, waitsFor, rolesAfter}
 use Rattle.theory.specs.Graph.{counts, node, drawn, plus, minus}
-use Rattle.theory.specs.Box.{State, givens}
+use Rattle.theory.specs.Below.{anyBelow}
+use Rattle.theory.specs.Box.{State, givens, rowAfter}
 use Rattle.theory.specs.Laws.Tests.{and-left, and-right, and-both, or-left, or-right, or-cases, test, is-false, not-both, fails-not}
 use Rattle.theory.specs.Laws.Below.{any-intro, any-elim, all-intro, all-elim}
 use Rattle.theory.specs.Laws.Graph.{counts-says, drawn-by, drawn-elim}
+use Rattle.theory.specs.Laws.History.{Sent, waits-asked, waits-head, waits-later, waits-cases}
 
 -- ---- numbers of events and conditions
 
@@ -186,6 +188,60 @@ givens-says sh asks st e p =
       ⊎-elim
           (λ (x : a ≡ true). or-left (b || c) x)
           (λ (y : (b ≡ true) ⊎ (c ≡ true)). or-right a (⊎-elim (λ (u : b ≡ true). or-left c u) (λ (v : c ≡ true). or-right b v) y)),
+    )
+
+-- ---- bodies, and what waits
+
+-- Each body event E has some q:E that is in X and that S does not block: the first of the two sets is the one that blocks, the second the one that holds.
+pub met-says : (S X : Events) (g : Trigger) → (met S X g ≡ true)
+    ↔ ((j : ℕ) → j < g .eventCount → (q : ℕ) × (q < PRIORITIES) × (X (g .event j) q ≡ true) × (blocked S (g .event j) q ≡ false))
+unfolding met
+met-says S X g = (
+  (λ h j l. nonblocked-says S X (g .event j) .0 (all-elim (g .eventCount) (λ i. nonblocked S X (g .event i)) h j l)),
+  (λ x. all-intro (g .eventCount) (λ i. nonblocked S X (g .event i)) (λ j l. nonblocked-says S X (g .event j) .1 (x j l))),
+)
+
+-- p:e comes to wait for d instants later, d > 0, when it is asked for with delay d, or is the head of a trigger of delay d whose conditions all hold and whose body is met: the solution S
+-- is both the set that holds and the set that blocks
+pub waits-says : (sh : Sheet) (asks : Requests) (ST : Roles) (S : Events) (d e p : ℕ) → (waitsFor sh asks ST S d e p ≡ true)
+    ↔ ((0 < d) × ((asks d e p ≡ true) ⊎ ((i : ℕ) × Sent sh ST S d e p i)))
+waits-says sh asks ST S d e p = (
+  (λ h. (waits-later sh asks ST S d e p h, waits-cases sh asks ST S d e p h)),
+  (λ x.
+      ⊎-elim
+      (λ (a : asks d e p ≡ true). waits-asked sh asks ST S d e p (x .0) a)
+      (λ (r : (i : ℕ) × Sent sh ST S d e p i).
+      let i : ℕ = r .0 in
+      subst₂ (λ (v q : ℕ). waitsFor sh asks ST S d v q ≡ true) (r .1 .event) (r .1 .priority)
+      (waits-head sh asks ST S d i (x .0) (r .1 .row) (r .1 .delayed) (r .1 .allowed) (r .1 .body-met)))
+      (x .1)),
+)
+
+-- After the instant p:e waits in row k when it waited there and k is not the instant's own row, which is cleared; or when row k is that of d instants later, d from 1 to 60, and p:e comes
+-- to wait for d instants later.
+pub row-after-says : (sh : Sheet) (asks : Requests) (st : State) (S : Events) (k e p : ℕ) → (rowAfter sh asks st S k e p ≡ true)
+    ↔ (((k ≡ st .instant % 61 → ⊥) × (st .waiting k e p ≡ true))
+    ⊎ ((d : ℕ) × (1 ≤ d) × (d ≤ 60) × ((st .instant + d) % 61 ≡ k) × (waitsFor sh asks (st .roles) S d e p ≡ true)))
+unfolding rowAfter
+row-after-says sh asks st S k e p =
+    let t : ℕ = st .instant in
+    let own : Bool = eqb k (t % 61) in
+    let was : Bool = st .waiting k e p in
+    let comes : ℕ → Bool = λ d. waitsFor sh asks (st .roles) S d e p in
+    let joins : ℕ → Bool = λ d. eqb ((t + d) % 61) k && comes d in (
+      (λ h.
+          ⊎-elim
+          (λ (a : (not own && was) ≡ true). inl ((λ x. not-both (eq-eqb k (t % 61) x) (not-true own (and-left (not own) was a))), and-right (not own) was a))
+          (λ (b : anyBelow 61 joins ≡ true).
+          let r = any-elim 61 joins b in
+          let d : ℕ = r .0 in
+          let w : comes d ≡ true = and-right (eqb ((t + d) % 61) k) (comes d) (r .2) in
+          inr (d, waits-later sh asks (st .roles) S d e p w, omega (arith, r .1), eqb-true _ _ (and-left (eqb ((t + d) % 61) k) (comes d) (r .2)), w))
+          (or-cases (not own && was) (anyBelow 61 joins) h)),
+      ⊎-elim
+          (λ (x : (k ≡ t % 61 → ⊥) × (was ≡ true)). or-left (anyBelow 61 joins) (and-both (fails-not (ne-eqb k (t % 61) (x .0))) (x .1)))
+          (λ (y : (d : ℕ) × (1 ≤ d) × (d ≤ 60) × ((t + d) % 61 ≡ k) × (comes d ≡ true)).
+          or-right (not own && was) (any-intro 61 joins (y .0) (omega (arith, y .2)) (and-both (eq-eqb _ _ (y .3)) (y .4)))),
     )
 
 -- ---- edges
