@@ -1,7 +1,7 @@
 -- EVERY PUBLIC FUNCTION IS EXACT: its contract leaves one possible answer and one possible content of every lent buffer, so any two outcomes that it allows are equal. In the order of
 -- crates.txt, each function's name, its contract in the words of its `ensures` (x is what is lent as x, x′ the same at the end), and its proof: `exact` where the contract is an
--- equation, else the theorem of its crate. The gate holds the list to the code, by `tools/listed`: every public function and the words of its contract stand here. At the end are those that ask
--- something of their callers, and the exceptions.
+-- equation, else the theorem of its crate. The gate holds the list to the code, by `tools/listed`: every public function stands here, and the
+-- theorem below its name is its contract, word for word. At the end are the hypotheses that some theorems have, the functions that ask something of their callers, and the exceptions.
 -- Assumes nothing.
 use mathlib.Core.Path.{_≡_, ap}
 use mathlib.Core.Bool.{Bool, _&&_, _||_}
@@ -588,6 +588,21 @@ day-minute-day-minute roles «periodic_count» «trigger_count» periodics trigg
 -- days::day
 pub days-day : (input out : List ℕ) → Exact₂ (λ r out′. DayOutcome input out r out′)
 days-day = days.day-exact
+
+-- ==== HYPOTHESES: what a theorem above asks besides its contract, or concludes where that is not `Exact`, and why. Its other binders are plain data. The gate lets no other stand, and none that is gone.
+-- solver::solve asks `length events ≡ EVENTS`: of a buffer of another length the solver promises only that it keeps its length. See EXCEPTIONS.
+-- solver::solve asks `GoodOrder (sheetOf roleCount periodicCount n periodics triggers)`: of rows out of order likewise.
+-- solver::solve asks `Levels (sheetOf roleCount periodicCount n periodics triggers) (byteAt levels)`: of levels that do not meet the rule likewise.
+-- event_rows::with asks `whole row`: the type of the code says it. A `Row` is an array of 128 truth values, and to a statement a list.
+-- event_rows::joined asks `whole x`: the type of the code says it.
+-- event_rows::joined asks `whole y`: the type of the code says it.
+-- rows::link asks `wholeRows rows`: the type of the code says it. `Rows` are an array of 128 such rows.
+-- reach::closed asks `wholeRows edges`: the type of the code says it.
+-- edges::draw asks `wholeRows rows`: the type of the code says it.
+-- lines::read_lines concludes `Same r r₂ periodics′ periodics₂ triggers′ triggers₂`: after a refusal nothing is said of the tables. See EXCEPTIONS.
+-- minute::act asks `length events ≡ EVENTS`: it hands out what the solver makes, which promises a solution there alone.
+-- minute::act asks `GoodOrder (sheetOf roleCount «periodic_count» «trigger_count» periodics triggers)`: likewise.
+-- minute::act asks `Levels (sheetOf roleCount «periodic_count» «trigger_count» periodics triggers) (byteAt levels)`: likewise.
 
 -- ==== WHAT SOME ASK. These are public only because a crate ends there: each asks something of its callers, the functions named, which have shown it. Each is exact as it stands above,
 -- whatever it is called with. Whoever uses the box calls sheet::read_sheet, step::step, entry::step_requests or days::day, which ask nothing.
