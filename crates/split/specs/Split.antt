@@ -17,29 +17,29 @@ upToEnd none = none
 upToEnd (endless l) = endless l
 upToEnd (line l ls) = line l (cond (beginsEnd l) none (upToEnd ls))
 
--- and those after it
+-- and those after it, none where there is no such line
 unfoldable pub afterEnd : Lines → Lines
 afterEnd none = none
 afterEnd (endless l) = none
 afterEnd (line l ls) = cond (beginsEnd l) ls (afterEnd ls)
 
 -- how many bytes lines have, their ends among them, and how many lines they are
-unfoldable pub bytesIn : Lines → ℕ
-bytesIn none = 0
-bytesIn (endless l) = length l
-bytesIn (line l ls) = length l + 1 + bytesIn ls
+unfoldable pub byteCount : Lines → ℕ
+byteCount none = 0
+byteCount (endless l) = length l
+byteCount (line l ls) = length l + 1 + byteCount ls
 
-unfoldable pub linesIn : Lines → ℕ
-linesIn none = 0
-linesIn (endless l) = 1
-linesIn (line l ls) = 1 + linesIn ls
+unfoldable pub lineCount : Lines → ℕ
+lineCount none = 0
+lineCount (endless l) = 1
+lineCount (line l ls) = 1 + lineCount ls
 
 -- the bytes and the lines of the sheet
 abbrev pub sheetBytes : Lines → ℕ
-sheetBytes ls = bytesIn (upToEnd ls)
+sheetBytes ls = byteCount (upToEnd ls)
 
 abbrev pub sheetLines : Lines → ℕ
-sheetLines ls = linesIn (upToEnd ls)
+sheetLines ls = lineCount (upToEnd ls)
 
 -- THE TWO PARTS of an input. (Their lines are `upToEnd` and `afterEnd` of its lines: `sheet-lines` and `tape-lines`, split/Laws/Parts.)
 abbrev pub sheetPart : List ℕ → List ℕ

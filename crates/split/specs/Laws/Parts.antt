@@ -13,7 +13,7 @@ use lib.Seq.{take-append-seam, drop-append-seam}
 use borrow.Author.Tests.{eqb-true}
 use Rattle.theory.specs.Laws.Tests.{test}
 use Rattle.text.specs.Lines.{LINE-END, Lines, none, endless, line, onto, lines}
-use Rattle.split.specs.Split.{beginsEnd, upToEnd, afterEnd, bytesIn, sheetBytes, sheetPart, tapePart}
+use Rattle.split.specs.Split.{beginsEnd, upToEnd, afterEnd, byteCount, sheetBytes, sheetPart, tapePart}
 
 -- ---- a text, and its lines
 
@@ -38,8 +38,8 @@ text-lines (b ∷ text) =
     (λ (t : eqb b LINE-END ≡ false). rw t (text-onto b (lines text) ∙ ap (λ (x : List ℕ). b ∷ x) (text-lines text)))
     (test (eqb b LINE-END))
 
-text-size : (ls : Lines) → length (textOf ls) ≡ bytesIn ls
-unfolding textOf bytesIn
+text-size : (ls : Lines) → length (textOf ls) ≡ byteCount ls
+unfolding textOf byteCount
 text-size none = refl
 text-size (endless l) = refl
 text-size (line l ls) = let e : length (LINE-END ∷ textOf ls) ≡ suc (length (textOf ls)) = refl in omega (arith, length-append l (LINE-END ∷ textOf ls), e, text-size ls)
