@@ -1,5 +1,5 @@
 -- Document 01's table 'What comes back': the number of each answer, and the values that come with it. Contracts speak of verdicts, or of what holds one;
--- what a verdict is in numbers is said here alone: `numberOf` in what is printed of a refusal (printed_frames/Frames), `answered` in the demands and for `answer_of`.
+-- what a verdict is in numbers is said here alone: `numberOf` in the line of a refusal (printed_frames/Frames), `answered` for `answer_of` and in the demands (claims/Demands).
 -- Assumes nothing.
 use Prim.Native.Nat.{ℕ}
 use Rattle.answers.specs.declared.Name.{Name}

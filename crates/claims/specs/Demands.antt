@@ -24,11 +24,11 @@ use Rattle.answers.specs.declared.Name.the-variants.{Loop as LOOP}
 use Rattle.answers.specs.declared.Refusal.{Refusal}
 use Rattle.answers.specs.declared.Verdict.{Verdict}
 use Rattle.answers.specs.declared.Verdict.the-variants.{Pass, Refuse}
-use Rattle.answers.specs.Answers.{numberOf, answered, refuse}
+use Rattle.answers.specs.Answers.{numberOf, answered}
 use Rattle.tables.specs.Buffers.{eventsOf, Narrow}
 use Rattle.tables.specs.Asked.{Asked}
-use Rattle.readings.specs.declared.Read.{Read}
 use Rattle.readings.specs.declared.Reading.the-variants.{Good, Bad}
+use Rattle.readings.specs.Readings.{verdictOf}
 use Rattle.line_acts.specs.Acts.{Progress}
 use Rattle.hand_out.specs.Out.{ReadOutcome, readOutcome, sheetRead, handed}
 use Rattle.sheet.specs.Sheet.{reading}
@@ -38,9 +38,10 @@ use Rattle.step.specs.Outcome.{Lent, Outcome}
 use Rattle.step.specs.Laws.Exact
 use Rattle.runs.specs.Runs.{Steps, GoesOn, IsPapers}
 use Rattle.runs.specs.Laws.{run-is-papers}
-use Rattle.openings.specs.Opening.{opening}
+use Rattle.openings.specs.Opening.{opens, refuses, opening}
+use Rattle.day_lines.specs.Lines.{OUTPUT-BYTES}
 use Rattle.days.specs.declared.Printed.{Printed}
-use Rattle.days.specs.Day.{Prints, DayOutcome}
+use Rattle.days.specs.Day.{Prints, DayOutcome, written}
 use Rattle.examples.specs.Example.{Said}
 use Rattle.examples.specs.Table.{table, all-say}
 use Rattle.claims.specs.Words.{ReadsInOrder, Ordered, SolvesFor, countIn, noPeriodics, noTriggers, looped, workedSheet, worked, asked}
@@ -48,6 +49,7 @@ use Rattle.claims.specs.Laws.Numbers
 use Rattle.claims.specs.Laws.Reader
 use Rattle.claims.specs.Laws.Step
 use Rattle.claims.specs.Laws.There
+use Rattle.claims.specs.Laws.Day
 use Rattle.claims.specs.Laws.Looped
 use Rattle.claims.specs.Laws.Shut
 
@@ -62,6 +64,10 @@ numbers-are n l m = let x = Numbers.number-each n l m in (x .0, x .1, λ other e
 
 pub no-other : (name : Name) → (1 ≤ numberOf name) × (numberOf name ≤ 10)
 no-other = Numbers.no-other
+
+-- The number and the place say which verdict was given.
+pub one-verdict : (v w : Verdict) → answered v ≡ answered w → v ≡ w
+one-verdict = Numbers.answered-once
 
 -- Any bytes as a sheet, with any two lent tables, have exactly one outcome: an answer, and what the tables hold then.
 pub reader-total : (sheet p t : List ℕ) → ExactlyOne (λ (o : ReadOutcome). o ≡ reading sheet p t)
@@ -79,9 +85,13 @@ step-total = There.step-total
 pub step-keeps : (R : Rules) (q : Asked) (l a : Lent) (r : Refusal) → Outcome R q l (Refuse r) a → a ≡ l
 step-keeps R q l a r o = o .refused r refl
 
--- Any input, with any lent buffer, has exactly one outcome: an answer with the number of bytes printed, and what the buffer holds then.
+-- Any input, with any lent buffer, has exactly one outcome: an answer with the number of bytes printed there, and what the buffer holds then.
 pub day-total : (input out : List ℕ) → ExactlyOne (λ (o : Printed × List ℕ). DayOutcome input out (o .0) (o .1))
 day-total = There.day-total
+
+-- After a refusal, of the input or for the length of the buffer, nothing is printed there, and the buffer is what it was.
+pub day-keeps : (input out : List ℕ) (r : Printed) (out′ : List ℕ) (x : Refusal) → DayOutcome input out r out′ → r .verdict ≡ Refuse x → (r .length ≡ 0) × (out′ ≡ out)
+day-keeps = Day.day-keeps
 
 -- ==== DEMAND 2, EXACT: a sheet in good order is refused for a loop exactly when its graph has a cycle with a negative edge.
 
@@ -97,22 +107,29 @@ loop-or-none sh good =
 pub reader-order : (sheet p t : List ℕ) (s : Progress) → ReadsInOrder sheet p t s → GoodOrder (sheetRead s)
 reader-order = Reader.reader-order
 
--- The reader refuses bytes with LOOP at k exactly when they read in good order and their loop is at k,
-pub reader-loops : (sheet p t : List ℕ) (k : ℕ) → (reading sheet p t ≡ readOutcome (Bad (record { name = LOOP; place = k })) p t) ↔ ((s : Progress) × ReadsInOrder sheet p t s × LoopAt (sheetRead s) k)
+-- The reader's answer to bytes is number 8 (LOOP) and place k exactly when they read in good order and their loop is at k;
+pub reader-loops : (sheet p t : List ℕ) (k : ℕ) → (answered (verdictOf (reading sheet p t .answer)) ≡ record { number = 8; place = k }) ↔ ((s : Progress) × ReadsInOrder sheet p t s × LoopAt (sheetRead s) k)
 reader-loops = Reader.reader-loops
 
--- and accepts them exactly when they read in good order and have none; then it hands out what was read.
-pub reader-accepts : (sheet p t : List ℕ) (r : Read) (p′ t′ : List ℕ) → (reading sheet p t ≡ readOutcome (Good r) p′ t′)
-    ↔ ((s : Progress) × ReadsInOrder sheet p t s × NoLoop (sheetRead s) × (readOutcome (Good (handed (s .seen))) (s .periodics) (s .triggers) ≡ readOutcome (Good r) p′ t′))
+-- then the tables are as they came.
+pub reader-loop-keeps : (sheet p t : List ℕ) (s : Progress) → ReadsInOrder sheet p t s → (k : ℕ) → LoopAt (sheetRead s) k → reading sheet p t ≡ readOutcome (Bad (record { name = LOOP; place = k })) p t
+reader-loop-keeps = Reader.refuses-loop
+
+-- It is number 0 (OK) and place 0 exactly when they read in good order and have none;
+pub reader-accepts : (sheet p t : List ℕ) → (answered (verdictOf (reading sheet p t .answer)) ≡ record { number = 0; place = 0 }) ↔ ((s : Progress) × ReadsInOrder sheet p t s × NoLoop (sheetRead s))
 reader-accepts = Reader.reader-accepts
 
--- A step answers LOOP at k exactly when all that is tested before it is in order and the loop of the lent rows is at k,
-pub step-loops : (R : Rules) (q : Asked) (l : Lent) (v : Verdict) (a : Lent) → Outcome R q l v a → (k : ℕ) → (v ≡ refuse LOOP k) ↔ (Ordered R q l × LoopAt (sheetIn R) k)
-step-loops R q l v a o k = let x = Step.step-loops R q l k in ((λ e. x .0 (sym (o .judged) ∙ e)), (λ y. o .judged ∙ x .1 y))
+-- then what was read is handed out.
+pub reader-hands-out : (sheet p t : List ℕ) (s : Progress) → ReadsInOrder sheet p t s → NoLoop (sheetRead s) → reading sheet p t ≡ readOutcome (Good (handed (s .seen))) (s .periodics) (s .triggers)
+reader-hands-out = Reader.accepts-none
 
--- and OK exactly when that is in order, there is no loop, and each request is within its limits.
-pub step-ok : (R : Rules) (q : Asked) (l : Lent) (v : Verdict) (a : Lent) → Outcome R q l v a → (v ≡ Pass) ↔ (Ordered R q l × NoLoop (sheetIn R) × AllFit (R .roleCount) q)
-step-ok R q l v a o = let x = Step.step-passes-says R q l in ((λ e. x .0 (sym (o .judged) ∙ e)), (λ y. o .judged ∙ x .1 y))
+-- A step's answer is number 8 and place k exactly when all that is tested before LOOP is in order and the loop of the lent rows is at k,
+pub step-loops : (R : Rules) (q : Asked) (l : Lent) (v : Verdict) (a : Lent) → Outcome R q l v a → (k : ℕ) → (answered v ≡ record { number = 8; place = k }) ↔ (Ordered R q l × LoopAt (sheetIn R) k)
+step-loops = Step.step-loops
+
+-- and number 0 and place 0 exactly when that is in order, there is no loop, and each request is within its limits.
+pub step-ok : (R : Rules) (q : Asked) (l : Lent) (v : Verdict) (a : Lent) → Outcome R q l v a → (answered v ≡ record { number = 0; place = 0 }) ↔ (Ordered R q l × NoLoop (sheetIn R) × AllFit (R .roleCount) q)
+step-ok = Step.step-ok
 
 -- From the empty start, over any run of accepted steps under one sheet, events and roles are the paper's: whatever requests come later, there is exactly one canonical execution model
 -- (004, definitions 3.7 to 3.9), and the steps agree with it in the events of each instant and in the roles before and after it.
@@ -139,19 +156,41 @@ one-buffer-holds-it = Exact.one-buffer-served
 pub one-day : (input : List ℕ) → ExactlyOne (Prints (opening input))
 one-day = There.one-day
 
+-- With a buffer of its exact length, what the program writes of the outcome (`written`) is that: the lines that stand in the buffer, or the line that `refusal_line` (printed_frames/src) makes of
+-- the refusal. Nothing else is.
+pub day-prints : (input out : List ℕ) (r : Printed) (out′ : List ℕ) → length out ≡ OUTPUT-BYTES → DayOutcome input out r out′
+    → Prints (opening input) (written r out′) × ((other : List ℕ) → Prints (opening input) other → other ≡ written r out′)
+day-prints = Day.day-prints
+
+-- The answer is number 0 (OK) and place 0 exactly when the input opens: its sheet, its requests and its last instant are there.
+pub day-ok : (input out : List ℕ) (r : Printed) (out′ : List ℕ) → length out ≡ OUTPUT-BYTES → DayOutcome input out r out′
+    → (answered (r .verdict) ≡ record { number = 0; place = 0 }) ↔ ((sh : Sheet) × (RQ : Stream) × (last : ℕ) × (opening input ≡ opens sh RQ last))
+day-ok = Day.day-ok
+
+-- It is another number n and place k exactly when the input is refused with that number and that place.
+pub day-refuses : (input out : List ℕ) (r : Printed) (out′ : List ℕ) → length out ≡ OUTPUT-BYTES → DayOutcome input out r out′
+    → (n k : ℕ) → 1 ≤ n → (answered (r .verdict) ≡ record { number = n; place = k }) ↔ ((x : Refusal) × (opening input ≡ refuses x) × (numberOf (x .name) ≡ n) × (x .place ≡ k))
+day-refuses = Day.day-refuses
+
+-- With a buffer of another length it is number 1 (LENGTH) and place 0.
+pub day-length : (input out : List ℕ) (r : Printed) (out′ : List ℕ) → (length out ≡ OUTPUT-BYTES → ⊥) → DayOutcome input out r out′ → answered (r .verdict) ≡ record { number = 1; place = 0 }
+day-length = Day.day-length
+
 -- ==== THE P TABLE: every bench example that document 01 marks P says what is true.
 pub p-table : Said table
 p-table = all-say
 
 -- ==== SHUT OUT, as 'How far a contract must go' lists it.
 
--- A box that refuses everything: the worked sheet is accepted.
-pub not-all-refused : reading workedSheet noPeriodics noTriggers ≡ readOutcome (Good (record { roles = 3; periodics = 1; triggers = 2 })) (worked .periodics) (worked .triggers)
-not-all-refused = Shut.is-worked .read
+-- A box that refuses everything: the answer to the worked sheet is 0 and 0, and its rows are handed out.
+pub not-all-refused : (answered (verdictOf (reading workedSheet noPeriodics noTriggers .answer)) ≡ record { number = 0; place = 0 })
+    × (reading workedSheet noPeriodics noTriggers ≡ readOutcome (Good (record { roles = 3; periodics = 1; triggers = 2 })) (worked .periodics) (worked .triggers))
+not-all-refused = (ap (λ (o : ReadOutcome). answered (verdictOf (o .answer))) (Shut.is-worked .read), Shut.is-worked .read)
 
--- A test that passes everything: "enable 0 gives disable 0" is refused with LOOP at place 0.
-pub not-all-passed : reading looped noPeriodics noTriggers ≡ readOutcome (Bad (record { name = LOOP; place = 0 })) noPeriodics noTriggers
-not-all-passed = Looped.not-all-passed
+-- A test that passes everything: the answer to "enable 0 gives disable 0" is 8 and 0, and the tables are as they came.
+pub not-all-passed : (answered (verdictOf (reading looped noPeriodics noTriggers .answer)) ≡ record { number = 8; place = 0 })
+    × (reading looped noPeriodics noTriggers ≡ readOutcome (Bad (record { name = LOOP; place = 0 })) noPeriodics noTriggers)
+not-all-passed = (ap (λ (o : ReadOutcome). answered (verdictOf (o .answer))) Looped.not-all-passed, Looped.not-all-passed)
 
 -- The first two minutes of the worked input can be run,
 pub minutes-run : (before : ℕ → Lent) × (after : ℕ → Lent) × Steps 2 worked asked before after

@@ -19,6 +19,7 @@ use Rattle.theory.specs.Numbers.{EVENTS, ROLES}
 use Rattle.theory.specs.Sheet.{GoodOrder, ofRoles, periodicFits, triggerFits}
 use Rattle.theory.specs.Laws.Exact.{exact}
 use Rattle.answers.specs.declared.Name.{Name}
+use Rattle.answers.specs.declared.Refusal.{Refusal}
 use Rattle.answers.specs.declared.Verdict.{Verdict}
 use Rattle.line_order.specs.declared.Tests.{Tests}
 use Rattle.answers.specs.Answers.{answered, numberOf}
@@ -45,7 +46,7 @@ use Rattle.text.specs.Framed.{framed}
 use Rattle.text.specs.Lines.{lines, span}
 use Rattle.frames.specs.Frame.{bytesOf, checked}
 use Rattle.prints.specs.Print.{lineOf}
-use Rattle.printed_frames.specs.Frames.{minuteFrame, refusalFrame}
+use Rattle.printed_frames.specs.Frames.{minuteFrame, refusalLine}
 use Rattle.walks.specs.Walks.{goes}
 use Rattle.periodic_frames.specs.Row.{periodicRow}
 use Rattle.trigger_frames.specs.Row.{triggerRow}
@@ -400,9 +401,9 @@ prints-put-line out at frame l l′ = exact
 pub printed-frames-minute-frame : (instant roles count : ℕ) → Exact (λ r. r ≡ minuteFrame instant roles count)
 printed-frames-minute-frame instant roles count r r′ = exact
 
--- printed_frames::refusal_frame
-pub printed-frames-refusal-frame : (number place : ℕ) → Exact (λ r. r ≡ refusalFrame number place)
-printed-frames-refusal-frame number place r r′ = exact
+-- printed_frames::refusal_line
+pub printed-frames-refusal-line : (r : Refusal) → Exact (λ line. line ≡ refusalLine r)
+printed-frames-refusal-line r line line′ = exact
 
 -- ---- periodic_frames
 
@@ -607,7 +608,7 @@ days-day = days.day-exact
 -- ==== WHAT SOME ASK. These are public only because a crate ends there: each asks something of its callers, the functions named, which have shown it. Each is exact as it stands above,
 -- whatever it is called with. Whoever uses the box calls sheet::read_sheet, step::step, entry::step_requests or days::day, which ask nothing.
 -- tables::copy_in asks that the row fits: line_acts::put_periodic, line_acts::put_trigger, hand_out::copy_out.
--- prints::put_line asks that the line fits: days::run, days::print_refusal.
+-- prints::put_line asks that the line fits: printed_frames::refusal_line, days::run.
 -- keys::chains asks for at most 256 triggers: solver::by_keys.
 -- keys::next asks for a key below 257: solver::by_keys.
 -- turns::settle asks for an events buffer of 128 numbers, a key that is not 0, and chained triggers: solver::by_keys.

@@ -3,5 +3,6 @@ pub mod Numbers
 pub mod Reader
 pub mod Step
 pub mod There
+pub mod Day
 pub mod Looped
 pub mod Shut

@@ -1,11 +1,20 @@
 // The day program: it reads an input from standard input and prints its day. (No contract can say what is read or written: all that is to be believed stands in `days`.)
+use answers::Verdict;
 
-// Prints the day of an input, by way of a buffer that is lent for it.
+// Prints the day of an input, by way of a buffer that is lent for it: what stands at its front, or the line of the refusal.
 fn print(input: &[u8], out: &mut [u8]) {
     let printed = days::day(input, out);
     let n = printed.length;
-    if n <= out.len() {
-        io::write_all(1, &out[0..n]);
+    let verdict = printed.verdict;
+    match verdict {
+        Verdict::Pass => {
+            if n <= out.len() {
+                io::write_all(1, &out[0..n]);
+            }
+        }
+        Verdict::Refuse(r) => {
+            io::write_all(1, &printed_frames::refusal_line(r));
+        }
     }
 }
 

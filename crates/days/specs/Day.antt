@@ -1,17 +1,16 @@
--- A day: what is printed of an input (document 01, 'The day program').
+-- A day: what is printed of an input, and what comes back of it with the lent buffer (document 01, 'The day program').
 -- Assumes nothing.
 use mathlib.Core.Path.{_≡_}
 use mathlib.Core.List.{List, _++_}
 use Prim.Native.Nat.{ℕ, suc}
-use lib.ListN.{length, drop}
+use lib.ListN.{length, take, drop}
 use Rattle.theory.specs.Sheet.{Sheet}
 use Rattle.theory.specs.Model.{Stream, Trace, ExecutionModel, noRoles}
 use Rattle.answers.specs.declared.Name.the-variants.{Length}
+use Rattle.answers.specs.declared.Refusal.{Refusal}
 use Rattle.answers.specs.declared.Verdict.{Verdict}
 use Rattle.answers.specs.declared.Verdict.the-variants.{Pass, Refuse}
-use Rattle.answers.specs.Answers.{numberOf, refuse}
-use Rattle.prints.specs.Print.{lineOf}
-use Rattle.printed_frames.specs.Frames.{refusalFrame}
+use Rattle.printed_frames.specs.Frames.{refusalLine}
 use Rattle.openings.specs.Opening.{Opening, opens, refuses, opening}
 use Rattle.day_lines.specs.Lines.{minuteLines, OUTPUT-BYTES}
 use Rattle.days.specs.declared.Printed.{Printed}
@@ -25,24 +24,43 @@ pub record PrintsDay (sh : Sheet) (RQ : Stream) (last : ℕ) (printed : List ℕ
 -- THE DAY: a refusal prints only its E0 frame
 abbrev pub Prints : Opening → List ℕ → Type 0
 Prints (opens sh RQ last) printed = PrintsDay sh RQ last printed
-Prints (refuses r) printed = printed ≡ lineOf (refusalFrame (numberOf (r .name)) (r .place))
-
--- the answer to an input
-abbrev pub answerTo : Opening → Verdict
-answerTo (opens sh RQ last) = Pass
-answerTo (refuses r) = Refuse r
+Prints (refuses x) printed = printed ≡ refusalLine x
 
 -- ---- the lent buffer
 
--- what is printed of an opening stands at the front of the buffer, and the rest of it stays
-pub record Front (o : Opening) (out : List ℕ) (r : Printed) (out′ : List ℕ) : Type 0 where
+-- an input that opens: its lines stand at the front of the buffer, and the rest of it stays
+pub record Front (sh : Sheet) (RQ : Stream) (last : ℕ) (out : List ℕ) (r : Printed) (out′ : List ℕ) : Type 0 where
   pub printed : List ℕ
-  pub day : Prints o printed
-  pub verdict : r .verdict ≡ answerTo o
+  pub day : PrintsDay sh RQ last printed
+  pub verdict : r .verdict ≡ Pass
   pub size : r .length ≡ length printed
   pub buffer : out′ ≡ printed ++ drop (length printed) out
 
--- THE OUTCOME: a buffer that has not its exact length is LENGTH, and nothing is written
+-- a refusal, with nothing in the buffer
+abbrev pub unprinted : Refusal → Printed
+unprinted x = record { verdict = Refuse x; length = 0 }
+
+-- and the buffer as it came
+abbrev pub Kept : Refusal → List ℕ → Printed → List ℕ → Type 0
+Kept x out r out′ = (r ≡ unprinted x) × (out′ ≡ out)
+
+-- what comes back of an opening, with a buffer of its exact length
+abbrev pub ComesBack : Opening → List ℕ → Printed → List ℕ → Type 0
+ComesBack (opens sh RQ last) out r out′ = Front sh RQ last out r out′
+ComesBack (refuses x) out r out′ = Kept x out r out′
+
+-- THE OUTCOME: a buffer that has not its exact length is LENGTH
 pub record DayOutcome (input out : List ℕ) (r : Printed) (out′ : List ℕ) : Type 0 where
-  pub fits : length out ≡ OUTPUT-BYTES → Front (opening input) out r out′
-  pub unfit : (length out ≡ OUTPUT-BYTES → ⊥) → (r ≡ record { verdict = refuse Length 0; length = 0 }) × (out′ ≡ out)
+  pub fits : length out ≡ OUTPUT-BYTES → ComesBack (opening input) out r out′
+  pub unfit : (length out ≡ OUTPUT-BYTES → ⊥) → Kept (record { name = Length; place = 0 }) out r out′
+
+-- ---- the program
+
+-- what it writes, by the verdict: what was printed at the front of the buffer, or the refusal's line
+abbrev pub writtenBy : Verdict → ℕ → List ℕ → List ℕ
+writtenBy Pass n out = take n out
+writtenBy (Refuse x) n out = refusalLine x
+
+-- of an outcome
+abbrev pub written : Printed → List ℕ → List ℕ
+written r out = writtenBy (r .verdict) (r .length) out

@@ -1,16 +1,16 @@
 ghost use mathlib.Core.Path.{_≡_};
 ghost use lib.ListN.{length};
-ghost use Rattle.openings.specs.Opening.{refuses, opening};
+ghost use Rattle.openings.specs.Opening.{opening};
 ghost use Rattle.day_lines.specs.Lines.{OUTPUT-BYTES};
 ghost use Rattle.day_lines.specs.Run.{Accepted, RunsTo, openingOf};
-ghost use Rattle.days.specs.Day.{Front, DayOutcome};
+ghost use Rattle.days.specs.Day.{unprinted, ComesBack, DayOutcome};
 use answers::Name;
 use answers::Refusal;
 use answers::Verdict;
 use openings::Opened;
 use openings::Plan;
 
-// What came of an input: the answer, and how many bytes were printed.
+// What came of an input: the answer, and how many bytes were printed into the buffer.
 pub struct Printed {
     pub verdict: Verdict,
     pub length: usize,
@@ -50,17 +50,13 @@ fn run(plan: Plan, periodics: &[u8], triggers: &[u8], tape: &[u8], out: &mut [u8
     }
 }
 
-// The E0 frame of a refusal, as a line at the front of the buffer.
-fn print_refusal(r: Refusal, out: &mut [u8]) -> Printed
-    requires { ⌜ length (now out) ≡ OUTPUT-BYTES ⌝ }
-    ensures { λ p. ⌜ Front (refuses r) (now (out .entry)) p (now (out .exit)) ⌝ }
+// A refusal: nothing is printed into the buffer.
+fn refused(r: Refusal) -> Printed
+    ensures { λ p. ⌜ p ≡ unprinted r ⌝ }
 {
-    let name = r.name;
-    let frame = printed_frames::refusal_frame(answers::number_of(name), r.place);
-    prints::put_line(out, 0, &frame);
     Printed {
         verdict: Verdict::Refuse(r),
-        length: 15,
+        length: 0,
     }
 }
 
@@ -73,7 +69,7 @@ fn print_lines(
     out: &mut [u8],
 ) -> Printed
     requires { ⌜ Accepted plan (now periodics) (now triggers) (now tape) (now out) ⌝ }
-    ensures { λ p. ⌜ Front (openingOf plan (now (periodics .entry)) (now (triggers .entry)) (now (tape .entry))) (now (out .entry)) p (now (out .exit)) ⌝ }
+    ensures { λ p. ⌜ ComesBack (openingOf plan (now (periodics .entry)) (now (triggers .entry)) (now (tape .entry))) (now (out .entry)) p (now (out .exit)) ⌝ }
 {
     run(plan, periodics, triggers, tape, out);
     Printed {
@@ -85,7 +81,7 @@ fn print_lines(
 // A day, into a buffer that has its length.
 fn print_day(input: &[u8], out: &mut [u8]) -> Printed
     requires { ⌜ length (now out) ≡ OUTPUT-BYTES ⌝ }
-    ensures { λ p. ⌜ Front (opening (now (input .entry))) (now (out .entry)) p (now (out .exit)) ⌝ }
+    ensures { λ p. ⌜ ComesBack (opening (now (input .entry))) (now (out .entry)) p (now (out .exit)) ⌝ }
 {
     let mut periodics = [0u8; 2048];
     let mut triggers = [0u8; 3328];
@@ -95,22 +91,19 @@ fn print_day(input: &[u8], out: &mut [u8]) -> Printed
             let from = plan.from;
             print_lines(plan, &periodics, &triggers, &input[from..input.len()], out)
         }
-        Opened::Refuses(r) => print_refusal(r, out),
+        Opened::Refuses(r) => refused(r),
     }
 }
 
-// A whole day: what is printed of an input stands at the front of the lent buffer, and the rest of it stays. A buffer of any other length than 312,511 bytes is LENGTH.
+// A whole day: the lines of an input stand at the front of the lent buffer, and the rest of it stays. After a refusal all of it stays. A buffer of any other length than 312,511 bytes is LENGTH.
 pub fn day(input: &[u8], out: &mut [u8]) -> Printed
     ensures { λ r. ⌜ DayOutcome (now (input .entry)) (now (out .entry)) r (now (out .exit)) ⌝ }
 {
     if out.len() == 312511 {
         return print_day(input, out);
     }
-    Printed {
-        verdict: Verdict::Refuse(Refusal {
-            name: Name::Length,
-            place: 0,
-        }),
-        length: 0,
-    }
+    refused(Refusal {
+        name: Name::Length,
+        place: 0,
+    })
 }

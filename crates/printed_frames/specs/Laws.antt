@@ -1,4 +1,5 @@
--- What is proved of the printed frames: their bytes, and how long they are.
+-- What is proved of the printed frames: their bytes, how long they are, and how a refusal's line comes into a buffer.
 pub mod Made
 pub mod Lengths
+pub mod Line
 pub mod Bytes

@@ -1,3 +1,3 @@
--- The frames that are printed: document 01, 'The day program'. Everything below `Laws` is proved of them.
+-- The frames that are printed, and a refusal's line: document 01, 'The day program'. Everything below `Laws` is proved of them.
 pub mod Frames
 pub mod Laws

@@ -1,6 +1,7 @@
 ghost use mathlib.Core.Path.{_≡_};
 ghost use Prim.Native.Nat.{_/_, _%_, _<_};
-ghost use Rattle.printed_frames.specs.Frames.{refusalFrame, minuteFrame};
+ghost use Rattle.printed_frames.specs.Frames.{refusalFrame, refusalLine, minuteFrame};
+use answers::Refusal;
 use widths::long;
 
 // The byte of a number that has this weight.
@@ -35,7 +36,7 @@ pub fn minute_frame(instant: u32, roles: u64, count: u8) -> [u8; 14]
 }
 
 // The frame of a refusal: its number and its place.
-pub fn refusal_frame(number: u8, place: u32) -> [u8; 6]
+fn refusal_frame(number: u8, place: u32) -> [u8; 6]
     ensures { λ r. ⌜ r ≡ refusalFrame number place ⌝ }
 {
     let p = long(place);
@@ -47,4 +48,15 @@ pub fn refusal_frame(number: u8, place: u32) -> [u8; 6]
         byte_of(p, 0x100),
         byte_of(p, 1),
     ]
+}
+
+// The line that is printed of a refusal: its frame, the check and the line end.
+pub fn refusal_line(r: Refusal) -> [u8; 15]
+    ensures { λ line. ⌜ line ≡ refusalLine r ⌝ }
+{
+    let name = r.name;
+    let frame = refusal_frame(answers::number_of(name), r.place);
+    let mut line = [0u8; 15];
+    prints::put_line(&mut line, 0, &frame);
+    line
 }

@@ -26,7 +26,7 @@ use Rattle.readings.specs.declared.Reading.the-variants.{Bad}
 use Rattle.hand_out.specs.Out.{readOutcome, sheetRead}
 use Rattle.sheet.specs.Sheet.{start, lengthsFit, reading}
 use Rattle.claims.specs.Words.{ReadsInOrder, noPeriodics, noTriggers, looped}
-use Rattle.claims.specs.Laws.Reader.{reader-loops}
+use Rattle.claims.specs.Laws.Reader.{refuses-loop}
 
 -- it goes on to its end
 abbrev goes-on : Going Progress → Bool
@@ -65,4 +65,4 @@ has-loop =
     }
 
 pub not-all-passed : reading looped noPeriodics noTriggers ≡ readOutcome (Bad (record { name = Loop; place = 0 })) noPeriodics noTriggers
-not-all-passed = reader-loops looped noPeriodics noTriggers 0 .1 (found, in-order, has-loop)
+not-all-passed = refuses-loop looped noPeriodics noTriggers found in-order 0 has-loop

@@ -1,4 +1,4 @@
--- The numbers of the refusals: 1 to 10, each of exactly one.
+-- The numbers of the refusals: 1 to 10, each of exactly one; and so an answer in numbers is that of one verdict.
 -- Assumes nothing.
 use mathlib.Core.Path.{_≡_, refl, sym, ap, _∙_}
 use mathlib.Core.List.{List, [], _∷_}
@@ -11,7 +11,11 @@ use Rattle.theory.specs.Below.{allBelow}
 use Rattle.theory.specs.Laws.Below.{all-elim}
 use Rattle.answers.specs.declared.Name.{Name}
 use Rattle.answers.specs.declared.Name.the-variants.{Length, Frame, Check, Kind, Field, TooMany, Count, Loop, Request, Last}
-use Rattle.answers.specs.Answers.{numberOf}
+use Rattle.answers.specs.declared.Answer.{Answer}
+use Rattle.answers.specs.declared.Refusal.{Refusal}
+use Rattle.answers.specs.declared.Verdict.{Verdict}
+use Rattle.answers.specs.declared.Verdict.the-variants.{Pass, Refuse}
+use Rattle.answers.specs.Answers.{numberOf, answered}
 
 -- the number of a refusal is 1 to 10
 pub no-other : (name : Name) → (1 ≤ numberOf name) × (numberOf name ≤ 10)
@@ -49,6 +53,20 @@ name-again Last = refl
 -- no two refusals have one number
 pub number-once : (a b : Name) → numberOf a ≡ numberOf b → a ≡ b
 number-once a b e = sym (name-again a) ∙ (ap (λ (n : ℕ). nameAt (n - 1)) e ∙ name-again b)
+
+-- a refusal's number is not OK's
+pub not-ok : {C : Type 0} (r : Refusal) → answered (Refuse r) ≡ answered Pass → C
+not-ok r e = absurd (omega (arith, no-other (r .name) .0, ap (λ (a : Answer). a .number) e))
+
+-- no two verdicts have one number and one place
+pub answered-once : (v w : Verdict) → answered v ≡ answered w → v ≡ w
+answered-once Pass Pass e = refl
+answered-once Pass (Refuse r) e = not-ok r (sym e)
+answered-once (Refuse r) Pass e = not-ok r e
+answered-once (Refuse r) (Refuse s) e =
+    let n : r .name ≡ s .name = number-once (r .name) (s .name) (ap (λ (a : Answer). a .number) e) in
+    let p : r .place ≡ s .place = ap (λ (a : Answer). a .place) e in
+    λ i. Refuse (record { name = n i; place = p i })
 
 -- every number is of one
 pub number-each : (n : ℕ) → 1 ≤ n → n ≤ 10 → (name : Name) × (numberOf name ≡ n)

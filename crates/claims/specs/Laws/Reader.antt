@@ -19,6 +19,7 @@ use Rattle.answers.specs.declared.Name.{Name}
 use Rattle.answers.specs.declared.Name.the-variants.{Length, Frame, Check, Kind, Field, TooMany, Count, Loop}
 use Rattle.answers.specs.declared.Refusal.{Refusal}
 use Rattle.answers.specs.declared.Verdict.{Verdict}
+use Rattle.answers.specs.declared.Answer.{Answer}
 use Rattle.answers.specs.declared.Verdict.the-variants.{Pass, Refuse}
 use Rattle.line_order.specs.declared.Tests.{Tests}
 use Rattle.answers.specs.Answers.{numberOf, answered, refuse}
@@ -33,7 +34,6 @@ use Rattle.line_tests.specs.Judge.{lineTests, judgeLine}
 use Rattle.line_acts.specs.Acts.{Progress, after}
 use Rattle.lines.specs.Line.{lineStep}
 use Rattle.lines.specs.Lines.{atEnd, reads}
-use Rattle.readings.specs.declared.Read.{Read}
 use Rattle.readings.specs.declared.Reading.{Reading}
 use Rattle.readings.specs.declared.Reading.the-variants.{Good, Bad}
 use Rattle.readings.specs.Readings.{verdictOf}
@@ -42,7 +42,7 @@ use Rattle.sheet.specs.Sheet.{start, byLines, lengthsFit, reading}
 use Rattle.accepted.specs.Laws.Accepted.{start-so-far}
 use Rattle.accepted.specs.Laws.Lines.{read-so-far}
 use Rattle.claims.specs.Words.{ReadsInOrder}
-use Rattle.claims.specs.Laws.Numbers.{no-other}
+use Rattle.claims.specs.Laws.Numbers.{not-ok}
 
 -- ---- no test of a line gives LOOP
 
@@ -97,9 +97,9 @@ reads-not (goes s) (line l ls) h = reads-not (lineStep s l) ls (by-verdict (judg
 
 -- ---- a sheet reads in good order, or is refused for something else
 
--- the number of a reader's answer
-abbrev numberIn : ReadOutcome → ℕ
-numberIn o = answered (verdictOf (o .answer)) .number
+-- the reader's answer in document 01's numbers
+abbrev answerIn : ReadOutcome → Answer
+answerIn o = answered (verdictOf (o .answer))
 
 -- what passed every line is in good order
 pub reader-order : (sheet p t : List ℕ) (s : Progress) → ReadsInOrder sheet p t s → GoodOrder (sheetRead s)
@@ -133,7 +133,7 @@ module _ (sheet p t : List ℕ) where
   loopAt k = Bad (record { name = Loop; place = k })
 
   module _ (s : Progress) (o : ReadsInOrder sheet p t s) where
-    refuses-loop : (k : ℕ) → LoopAt (sheetRead s) k → reading sheet p t ≡ readOutcome (loopAt k) p t
+    pub refuses-loop : (k : ℕ) → LoopAt (sheetRead s) k → reading sheet p t ≡ readOutcome (loopAt k) p t
     unfolding byLoop
     refuses-loop k l =
         ⊎-elim
@@ -143,7 +143,7 @@ module _ (sheet p t : List ℕ) where
         after-order s o ∙ rw (lt-ltb (loopPlace (sheetRead s)) PAIRS (y .0)) (ap (λ (x : ℕ). readOutcome (loopAt x) p t) e))
         (loop-or (sheetRead s) (good-heads (sheetRead s) (reader-order sheet p t s o)))
 
-    accepts-none : NoLoop (sheetRead s) → reading sheet p t ≡ readOutcome (Good (handed (s .seen))) (s .periodics) (s .triggers)
+    pub accepts-none : NoLoop (sheetRead s) → reading sheet p t ≡ readOutcome (Good (handed (s .seen))) (s .periodics) (s .triggers)
     unfolding byLoop
     accepts-none nl =
         ⊎-elim
@@ -158,44 +158,38 @@ module _ (sheet p t : List ℕ) where
         (λ (y : (loopPlace (sheetRead s) < PAIRS) × LoopAt (sheetRead s) (loopPlace (sheetRead s))). inl (loopPlace (sheetRead s), y .1))
         (loop-or (sheetRead s) (good-heads (sheetRead s) (reader-order sheet p t s o)))
 
-  -- THE THEOREM: LOOP at k exactly where the sheet reads in good order and has its loop at k
-  pub reader-loops : (k : ℕ) → (reading sheet p t ≡ readOutcome (loopAt k) p t) ↔ ((s : Progress) × ReadsInOrder sheet p t s × LoopAt (sheetRead s) k)
+  -- THE THEOREM: number 8 at k exactly where the sheet reads in good order and has its loop at k
+  pub reader-loops : (k : ℕ) → (answerIn (reading sheet p t) ≡ record { number = 8; place = k }) ↔ ((s : Progress) × ReadsInOrder sheet p t s × LoopAt (sheetRead s) k)
   reader-loops k = (
     (λ h.
         ⊎-elim
         (λ (x : (s : Progress) × ReadsInOrder sheet p t s).
         ⊎-elim
         (λ (l : (j : ℕ) × LoopAt (sheetRead (x .0)) j).
-        let e : readOutcome (loopAt (l .0)) p t ≡ readOutcome (loopAt k) p t = sym (refuses-loop (x .0) (x .1) (l .0) (l .1)) ∙ h in
-        let j : l .0 ≡ k = ap (λ (o : ReadOutcome). answered (verdictOf (o .answer)) .place) e in
+        let j : l .0 ≡ k = ap (λ (a : Answer). a .place) (sym (ap answerIn (refuses-loop (x .0) (x .1) (l .0) (l .1))) ∙ h) in
         (x .0, x .1, subst (LoopAt (sheetRead (x .0))) j (l .1)))
         (λ (n : NoLoop (sheetRead (x .0))).
-        let e : 0 ≡ 8 = ap numberIn (sym (accepts-none (x .0) (x .1) n) ∙ h) in
+        let e : 0 ≡ 8 = ap (λ (a : Answer). a .number) (sym (ap answerIn (accepts-none (x .0) (x .1) n)) ∙ h) in
         absurd (omega arith))
         (loop-or-none (x .0) (x .1)))
-        (λ (y : (r : Refusal) × (reading sheet p t ≡ readOutcome (Bad r) p t) × NotLoop (Refuse r)). absurd (y .2 (ap numberIn (sym (y .1) ∙ h))))
+        (λ (y : (r : Refusal) × (reading sheet p t ≡ readOutcome (Bad r) p t) × NotLoop (Refuse r)). absurd (y .2 (ap (λ (a : Answer). a .number) (sym (ap answerIn (y .1)) ∙ h))))
         order-cases),
-    (λ x. refuses-loop (x .0) (x .1) k (x .2)),
+    (λ x. ap answerIn (refuses-loop (x .0) (x .1) k (x .2))),
   )
 
-  -- and OK exactly where it reads in good order and has none: then the tables hold what was read
-  pub reader-accepts : (r : Read) (p′ t′ : List ℕ) → (reading sheet p t ≡ readOutcome (Good r) p′ t′)
-      ↔ ((s : Progress) × ReadsInOrder sheet p t s × NoLoop (sheetRead s) × (readOutcome (Good (handed (s .seen))) (s .periodics) (s .triggers) ≡ readOutcome (Good r) p′ t′))
-  reader-accepts r p′ t′ = (
+  -- and number 0, place 0, exactly where it reads in good order and has none
+  pub reader-accepts : (answerIn (reading sheet p t) ≡ record { number = 0; place = 0 }) ↔ ((s : Progress) × ReadsInOrder sheet p t s × NoLoop (sheetRead s))
+  reader-accepts = (
     (λ h.
         ⊎-elim
         (λ (x : (s : Progress) × ReadsInOrder sheet p t s).
         ⊎-elim
-        (λ (l : (j : ℕ) × LoopAt (sheetRead (x .0)) j).
-        let e : 8 ≡ 0 = ap numberIn (sym (refuses-loop (x .0) (x .1) (l .0) (l .1)) ∙ h) in
-        absurd (omega arith))
-        (λ (n : NoLoop (sheetRead (x .0))). (x .0, x .1, n, sym (accepts-none (x .0) (x .1) n) ∙ h))
+        (λ (l : (j : ℕ) × LoopAt (sheetRead (x .0)) j). not-ok (record { name = Loop; place = l .0 }) (sym (ap answerIn (refuses-loop (x .0) (x .1) (l .0) (l .1))) ∙ h))
+        (λ (n : NoLoop (sheetRead (x .0))). (x .0, x .1, n))
         (loop-or-none (x .0) (x .1)))
-        (λ (y : (r : Refusal) × (reading sheet p t ≡ readOutcome (Bad r) p t) × NotLoop (Refuse r)).
-        let e : numberOf (y .0 .name) ≡ 0 = ap numberIn (sym (y .1) ∙ h) in
-        absurd (omega (arith, no-other (y .0 .name) .0, e)))
+        (λ (y : (r : Refusal) × (reading sheet p t ≡ readOutcome (Bad r) p t) × NotLoop (Refuse r)). not-ok (y .0) (sym (ap answerIn (y .1)) ∙ h))
         order-cases),
-    (λ x. accepts-none (x .0) (x .1) (x .2) ∙ x .3),
+    (λ x. ap answerIn (accepts-none (x .0) (x .1) (x .2))),
   )
 
   -- a refusal leaves both tables as they came
@@ -209,7 +203,7 @@ module _ (sheet p t : List ℕ) where
       (λ (l : (j : ℕ) × LoopAt (sheetRead (x .0)) j). kept (loopAt (l .0)) (refuses-loop (x .0) (x .1) (l .0) (l .1)))
       (λ (n : NoLoop (sheetRead (x .0))).
       let e : Good (handed (x .0 .seen)) ≡ Bad r = sym (ap (λ (o : ReadOutcome). o .answer) (accepts-none (x .0) (x .1) n)) ∙ h in
-      absurd (omega (arith, no-other (r .name) .0, ap (λ (a : Reading). answered (verdictOf a) .number) e)))
+      not-ok r (sym (ap (λ (a : Reading). answered (verdictOf a)) e)))
       (loop-or-none (x .0) (x .1)))
       (λ (y : (r : Refusal) × (reading sheet p t ≡ readOutcome (Bad r) p t) × NotLoop (Refuse r)). kept (Bad (y .0)) (y .1))
       order-cases

@@ -1,7 +1,7 @@
 -- The step is exact on loops and on all that it accepts: OK exactly where everything is within its limits and there is no loop, LOOP at k exactly where all that is tested before it
 -- is and the loop is at k.
 -- Assumes nothing.
-use mathlib.Core.Path.{_≡_, refl, ap, subst}
+use mathlib.Core.Path.{_≡_, refl, sym, ap, _∙_, subst}
 use mathlib.Core.Logic.{⊎-elim, _↔_}
 use mathlib.Core.Bool.{Bool, true, false, cond}
 use Prim.Native.Nat.{ℕ}
@@ -24,9 +24,10 @@ use Rattle.judge.specs.Laws.{judge-says, judge-passes, judge-refuses-not, judge
 use Rattle.order.specs.Order.{exactLengths}
 use Rattle.requests.specs.Requests.{firstOutside, judgeRequests, AllFit}
 use Rattle.requests.specs.Laws.{requests-pass, requests-fit}
-use Rattle.step.specs.Outcome.{Lent, lengthsFit, judgeStep}
+use Rattle.step.specs.Outcome.{Lent, lengthsFit, judgeStep, Outcome}
 use Rattle.step.specs.Laws.Passes.{Accepted, Lengths, lengths-say, step-passes, step-accepts}
 use Rattle.claims.specs.Words.{Ordered}
+use Rattle.claims.specs.Laws.Numbers.{answered-once}
 
 -- a test whose refusal is not LOOP passed, where LOOP is given
 past : (b : Bool) (v : Verdict) (name : Name) (place k : ℕ) → (numberOf name ≡ 8 → ⊥) → cond b v (refuse name place) ≡ refuse Loop k → (b ≡ true) × (v ≡ refuse Loop k)
@@ -80,9 +81,9 @@ module _ (R : Rules) (q : Asked) (l : Lent) where
   )
 
   -- and LOOP at k exactly where all before it is in order and the loop is at k
-  pub step-loops : (k : ℕ) → (judgeStep R q l ≡ refuse Loop k) ↔ (Ordered R q l × LoopAt (sheetIn R) k)
+  step-loops-says : (k : ℕ) → (judgeStep R q l ≡ refuse Loop k) ↔ (Ordered R q l × LoopAt (sheetIn R) k)
   unfolding judgeStep lengthsFit exactLengths andThen
-  step-loops k = (
+  step-loops-says k = (
     (λ h.
         let a = past (lengthsFit R l) _ Length 0 k (λ e. omega (arith, e)) h in
         let b = past (leb (l .instant) LAST-INSTANT) _ Last 0 k (λ e. omega (arith, e)) (a .1) in
@@ -102,3 +103,17 @@ module _ (R : Rules) (q : Asked) (l : Lent) where
           judge-finds (sheetIn R) (o .rows) k (x .1),
         ) refl),
   )
+
+-- ---- the same in document 01's numbers, of the step's own outcome
+
+-- number 8 at k
+pub step-loops : (R : Rules) (q : Asked) (l : Lent) (v : Verdict) (a : Lent) → Outcome R q l v a → (k : ℕ) → (answered v ≡ record { number = 8; place = k }) ↔ (Ordered R q l × LoopAt (sheetIn R) k)
+step-loops R q l v a o k =
+    let x = step-loops-says R q l k in
+    ((λ e. x .0 (sym (o .judged) ∙ answered-once v (refuse Loop k) e)), (λ y. ap answered (o .judged ∙ x .1 y)))
+
+-- number 0, place 0
+pub step-ok : (R : Rules) (q : Asked) (l : Lent) (v : Verdict) (a : Lent) → Outcome R q l v a → (answered v ≡ record { number = 0; place = 0 }) ↔ (Ordered R q l × NoLoop (sheetIn R) × AllFit (R .roleCount) q)
+step-ok R q l v a o =
+    let x = step-passes-says R q l in
+    ((λ e. x .0 (sym (o .judged) ∙ answered-once v Pass e)), (λ y. ap answered (o .judged ∙ x .1 y)))

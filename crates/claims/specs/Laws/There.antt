@@ -20,7 +20,6 @@ use Rattle.answers.specs.declared.Name.the-variants.{Length}
 use Rattle.answers.specs.declared.Refusal.{Refusal}
 use Rattle.answers.specs.declared.Verdict.{Verdict}
 use Rattle.answers.specs.declared.Verdict.the-variants.{Pass, Refuse}
-use Rattle.answers.specs.Answers.{refuse}
 use Rattle.answers.specs.Laws.{verdict-cases, no-pass}
 use Rattle.text.specs.Lines.{lines}
 use Rattle.tables.specs.Layout.{sheetOf}
@@ -42,12 +41,12 @@ use Rattle.tape.specs.Laws.Accepted.{fine-within}
 use Rattle.openings.specs.declared.Plan.{Plan}
 use Rattle.openings.specs.declared.Opened.{Opened}
 use Rattle.openings.specs.declared.Opened.the-variants.{Opens, Refuses}
-use Rattle.openings.specs.Opening.{Opening, opening}
+use Rattle.openings.specs.Opening.{Opening, opens, refuses, opening}
 use Rattle.openings.specs.Planned.{planned}
 use Rattle.days.specs.declared.Printed.{Printed}
 use Rattle.day_lines.specs.Lines.{minuteLines, OUTPUT-BYTES}
 use Rattle.day_lines.specs.Run.{rulesOf, openingOf}
-use Rattle.days.specs.Day.{Prints, answerTo, DayOutcome}
+use Rattle.days.specs.Day.{Prints, unprinted, ComesBack, DayOutcome}
 use Rattle.days.specs.Laws.Exact.{prints-one, day-exact}
 use Rattle.days.specs.Laws.Opened.{Opens-to, plan-opens, plan-refuses}
 
@@ -117,18 +116,22 @@ by-answer input (Refuses r) h = subst Printing (sym (plan-refuses input (planned
 pub one-day : (input : List ℕ) → ExactlyOne (Prints (opening input))
 one-day input = let s = by-answer input (planned input .answer) refl in (s .0, s .1, λ other y. prints-one input other (s .0) y (s .1))
 
+-- what comes back of it
+back : (o : Opening) → Printing o → (out : List ℕ) → (r : Printed) × (out′ : List ℕ) × ComesBack o out r out′
+back (opens sh RQ last) (s, d) out =
+    (record { verdict = Pass; length = length s }, s ++ drop (length s) out, record { printed = s; day = d; verdict = refl; size = refl; buffer = refl })
+back (refuses x) s out = (unprinted x, out, (refl, refl))
+
 -- and with any lent buffer exactly one outcome
 pub day-total : (input out : List ℕ) → ExactlyOne (λ (o : Printed × List ℕ). DayOutcome input out (o .0) (o .1))
 day-total input out =
     ⊎-elim
     (λ (h : eqb (length out) OUTPUT-BYTES ≡ true).
     let d = one-day input in
-    let s : List ℕ = d .0 in
-    one (record { verdict = answerTo (opening input); length = length s }) (s ++ drop (length s) out)
-    (record { fits = λ _. record { printed = s; day = d .1; verdict = refl; size = refl; buffer = refl }; unfit = λ n. absurd (n (eqb-true _ _ h)) }))
+    let b = back (opening input) (d .0, d .1) out in
+    one (b .0) (b .1) (record { fits = λ _. b .2; unfit = λ n. absurd (n (eqb-true _ _ h)) }))
     (λ (h : eqb (length out) OUTPUT-BYTES ≡ false).
-    one (record { verdict = refuse Length 0; length = 0 }) out
-    (record { fits = λ e. absurd (eqb-false _ _ h e); unfit = λ _. (refl, refl) }))
+    one (unprinted (record { name = Length; place = 0 })) out (record { fits = λ e. absurd (eqb-false _ _ h e); unfit = λ _. (refl, refl) }))
     (test (eqb (length out) OUTPUT-BYTES))
   where
     one : (r : Printed) (o : List ℕ) → DayOutcome input out r o → ExactlyOne (λ (o : Printed × List ℕ). DayOutcome input out (o .0) (o .1))

@@ -15,8 +15,11 @@ returns : tie.Need-returns
 returns c = let p = c .before .before in
     record { fits = λ _. p .print-day .ensures; unfit = λ n. absurd (n (p .before .before .if1 .taken)) }
 
+refused-requires : tie.Need-refused-requires
+refused-requires c κs = search needs
+
 returns-2 : tie.Need-returns-2
-returns-2 c = record { fits = λ e. absurd (c .if1 .left e); unfit = λ _. (refl, refl) }
+returns-2 c = record { fits = λ e. absurd (c .before .if1 .left e); unfit = λ _. (c .refused .ensures, refl) }
 
 pub day-spec : {M : Type 1} → statement M
-day-spec = tie.close (tie.spec print-day-requires same-length returns returns-2)
+day-spec = tie.close (tie.spec print-day-requires same-length returns refused-requires returns-2)

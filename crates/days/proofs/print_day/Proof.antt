@@ -1,7 +1,8 @@
 -- `days::print_day` meets its contract: the code's own opening is the input's.
 -- Assumes nothing.
+use mathlib.Core.Path.{refl}
 use Rattle.openings.specs.Laws.{part-rest}
-use Rattle.days.specs.Laws.Opened.{plan-opens, plan-refuses, opened-accepted, opened-front, refused-front}
+use Rattle.days.specs.Laws.Opened.{plan-opens, plan-refuses, opened-accepted, opened-back, refused-back}
 use borrow.Author.Needs.{needs}
 use Rattle.days.proofs.print_day.Statement.{statement}
 use Rattle.days.proofs.print_day.Tie as tie
@@ -45,8 +46,8 @@ print-lines-requires c κs = let d = c .before .before in
 enum-known-opened-2 : tie.Need-enum-known-opened-2
 enum-known-opened-2 c = search needs
 
-print-refusal-requires : tie.Need-print-refusal-requires
-print-refusal-requires c κs = search needs
+refused-requires : tie.Need-refused-requires
+refused-requires c κs = search needs
 
 same-length : tie.Need-same-length
 same-length c = search needs
@@ -57,16 +58,12 @@ returns c = let l = c .before .before in
     let o = d .before .before .before .before .before .before .before in
     let a = o .before .before .before .before .before in
     let x = plan-opens _ _ _ _ (o .open .ensures) _ (d .before .before .before .opened .given .1) in
-    opened-front _ _ _ _ x _ (part-rest (a .args .input .now) (d .before .before .before .opened .given .0 .0 .from)) _ _ _ (l .print-lines .ensures)
-
-same-length-2 : tie.Need-same-length-2
-same-length-2 c = search needs
+    opened-back _ _ _ _ x _ (part-rest (a .args .input .now) (d .before .before .before .opened .given .0 .0 .from)) _ _ _ (l .print-lines .ensures)
 
 returns-2 : tie.Need-returns-2
-returns-2 c = let l = c .before .before in
-    let d = l .before .before .before in
+returns-2 c = let d = c .before .before in
     let o = d .before .before .before .before in
-    refused-front _ _ (plan-refuses _ _ _ _ (o .open .ensures) _ (d .opened2 .given .1)) _ _ _ (l .print-refusal .ensures)
+    refused-back _ _ (plan-refuses _ _ _ _ (o .open .ensures) _ (d .opened2 .given .1)) _ _ _ (c .refused .ensures, refl)
 
 pub print-day-spec : {M : Type 1} → statement M
 print-day-spec =
@@ -83,8 +80,7 @@ print-day-spec =
     part-print-lines-end
     print-lines-requires
     enum-known-opened-2
-    print-refusal-requires
+    refused-requires
     same-length
     returns
-    same-length-2
     returns-2)

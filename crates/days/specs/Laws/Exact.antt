@@ -21,12 +21,12 @@ use Rattle.tape.specs.Tape.{asksIn}
 use Rattle.openings.specs.declared.Plan.{Plan}
 use Rattle.openings.specs.declared.Opened.{Opened}
 use Rattle.openings.specs.declared.Opened.the-variants.{Opens, Refuses}
-use Rattle.openings.specs.Opening.{Opening, opening}
+use Rattle.openings.specs.Opening.{Opening, opens, refuses, opening}
 use Rattle.openings.specs.Planned.{planned}
 use Rattle.day_lines.specs.Lines.{minuteLines, OUTPUT-BYTES}
 use Rattle.day_lines.specs.Run.{rulesOf, openingOf}
 use Rattle.days.specs.declared.Printed.{Printed}
-use Rattle.days.specs.Day.{Prints, Front, DayOutcome}
+use Rattle.days.specs.Day.{Prints, ComesBack, DayOutcome}
 use Rattle.days.specs.Laws.Opened.{Opens-to, plan-opens, plan-refuses}
 
 -- an opening prints one thing
@@ -52,21 +52,23 @@ by-answer input (Refuses x) h =
 pub prints-one : (input a b : List ℕ) → Prints (opening input) a → Prints (opening input) b → a ≡ b
 prints-one input = by-answer input (planned input .answer) refl
 
-front-one : (input out : List ℕ) (r r′ : Printed) (o o′ : List ℕ) → Front (opening input) out r o → Front (opening input) out r′ o′ → (r ≡ r′) × (o ≡ o′)
-front-one input out r r′ o o′ x y =
-    let e : x .printed ≡ y .printed = prints-one input (x .printed) (y .printed) (x .day) (y .day) in
+-- and one thing comes back of it
+back-one : (o : Opening) → One o → (out : List ℕ) (r r′ : Printed) (b b′ : List ℕ) → ComesBack o out r b → ComesBack o out r′ b′ → (r ≡ r′) × (b ≡ b′)
+back-one (opens sh RQ last) one out r r′ b b′ x y =
+    let e : x .printed ≡ y .printed = one (x .printed) (y .printed) (x .day) (y .day) in
     let v : r .verdict ≡ r′ .verdict = exact (x .verdict) (y .verdict) in
     let n : r .length ≡ r′ .length = x .size ∙ (ap length e ∙ sym (y .size)) in
     ((λ i. record { verdict = v i; length = n i }), x .buffer ∙ (ap (λ (s : List ℕ). s ++ drop (length s) out) e ∙ sym (y .buffer)))
+back-one (refuses z) one out r r′ b b′ x y = (exact (x .0) (y .0), exact (x .1) (y .1))
 
 pub day-exact : (input out : List ℕ) (r r′ : Printed) (o o′ : List ℕ) → DayOutcome input out r o → DayOutcome input out r′ o′ → (r ≡ r′) × (o ≡ o′)
 day-exact input out r r′ o o′ x y =
     ⊎-elim
     (λ (h : eqb (length out) OUTPUT-BYTES ≡ true).
     let e : length out ≡ OUTPUT-BYTES = eqb-true _ _ h in
-    front-one input out r r′ o o′ (x .fits e) (y .fits e))
+    back-one (opening input) (prints-one input) out r r′ o o′ (x .fits e) (y .fits e))
     (λ (h : eqb (length out) OUTPUT-BYTES ≡ false).
     let a = x .unfit (eqb-false _ _ h) in
     let b = y .unfit (eqb-false _ _ h) in
-    (a .0 ∙ sym (b .0), a .1 ∙ sym (b .1)))
+    (exact (a .0) (b .0), exact (a .1) (b .1)))
     (test (eqb (length out) OUTPUT-BYTES))

@@ -1,39 +1,31 @@
--- What stands at the front of the buffer is the day: a run of the box is the paper's, and a refusal is its frame.
+-- What stands at the front of the buffer is the day: a run of the box is the paper's.
 -- Assumes nothing.
 use mathlib.Core.Path.{_≡_, refl, ap, _∙_}
 use mathlib.Core.List.{List}
 use Prim.Native.Nat.{ℕ, suc, _+_, _*_}
 use native.Mathlib.Omega.{arith}
-use lib.ListN.{length}
 use lib.Seq.{paste}
 use Rattle.theory.specs.Sheet.{Sheet, GoodOrder}
 use Rattle.theory.specs.Graph.{NoLoop}
 use Rattle.theory.specs.Model.{Stream, noRoles}
 use Rattle.theory.specs.Box.{Within, traceOf}
 use Rattle.theory.specs.Laws.Run.{run-exists, canonical-run}
-use Rattle.answers.specs.declared.Refusal.{Refusal}
-use Rattle.answers.specs.declared.Verdict.the-variants.{Pass, Refuse}
-use Rattle.answers.specs.Answers.{numberOf}
+use Rattle.answers.specs.declared.Verdict.the-variants.{Pass}
 use Rattle.text.specs.Lines.{lines}
 use Rattle.tables.specs.Layout.{sheetOf}
 use Rattle.row_judge.specs.Judge.{sheetIn}
 use Rattle.judge.specs.Laws.{judge-passes}
-use Rattle.prints.specs.Print.{lineOf}
-use Rattle.prints.specs.Laws.Lengths.{length-line}
-use Rattle.printed_frames.specs.Frames.{refusalFrame}
-use Rattle.printed_frames.specs.Laws.Lengths.{length-refusal}
 use Rattle.tape.specs.Tape.{asksIn}
 use Rattle.tape.specs.Laws.Accepted.{fine-within}
 use Rattle.openings.specs.declared.Plan.{Plan}
-use Rattle.openings.specs.Opening.{refuses}
 use Rattle.day_lines.specs.Lines.{minuteLines, LINE}
 use Rattle.day_lines.specs.Run.{rulesOf, Accepted, RunsTo, openingOf}
 use Rattle.day_lines.specs.Laws.Lines.{lines-size, lines-front, lines-same}
-use Rattle.days.specs.Day.{Front}
+use Rattle.days.specs.Day.{ComesBack}
 
 -- the lines of any run are those of the canonical execution model
 pub front-lines : (plan : Plan) (p t tape out out′ : List ℕ) → Accepted plan p t tape out → RunsTo plan p t tape out out′ → (n : ℕ) → n ≡ LINE * (plan .last + 1)
-    → Front (openingOf plan p t tape) out (record { verdict = Pass; length = n }) out′
+    → ComesBack (openingOf plan p t tape) out (record { verdict = Pass; length = n }) out′
 unfolding sheetOf
 front-lines plan p t tape out out′ ok to n e =
     let sh : Sheet = sheetIn (rulesOf plan p t) in
@@ -51,17 +43,4 @@ front-lines plan p t tape out out′ ok to n e =
       verdict = refl;
       size = omega (arith, e, lines-size (c .0) (suc (plan .last)));
       buffer = to (x .0) (x .1) (x .2) ∙ (ap (λ (z : List ℕ). paste out 0 z (LINE * suc (plan .last))) same ∙ lines-front out s (LINE * suc (plan .last)) (lines-size (c .0) (suc (plan .last))));
-    }
-
--- a refusal
-pub front-refusal : (r : Refusal) (out out′ f : List ℕ) → f ≡ refusalFrame (numberOf (r .name)) (r .place) → out′ ≡ paste out 0 (lineOf f) (length (lineOf f))
-    → Front (refuses r) out (record { verdict = Refuse r; length = 15 }) out′
-front-refusal r out out′ f g e =
-    let s : List ℕ = lineOf (refusalFrame (numberOf (r .name)) (r .place)) in
-    record {
-      printed = s;
-      day = refl;
-      verdict = refl;
-      size = omega (arith, length-line (refusalFrame (numberOf (r .name)) (r .place)), length-refusal (numberOf (r .name)) (r .place));
-      buffer = e ∙ (ap (λ (z : List ℕ). paste out 0 (lineOf z) (length (lineOf z))) g ∙ lines-front out s (length s) refl);
     }
