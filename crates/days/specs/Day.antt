@@ -45,13 +45,13 @@ abbrev pub Kept : Refusal → List ℕ → Printed → List ℕ → Type 0
 Kept x out r out′ = (r ≡ unprinted x) × (out′ ≡ out)
 
 -- what comes back of an opening, with a buffer of its exact length
-abbrev pub ComesBack : Opening → List ℕ → Printed → List ℕ → Type 0
-ComesBack (opens sh RQ last) out r out′ = Front sh RQ last out r out′
-ComesBack (refuses x) out r out′ = Kept x out r out′
+abbrev pub AfterOpening : Opening → List ℕ → Printed → List ℕ → Type 0
+AfterOpening (opens sh RQ last) out r out′ = Front sh RQ last out r out′
+AfterOpening (refuses x) out r out′ = Kept x out r out′
 
 -- THE OUTCOME: a buffer that has not its exact length is LENGTH
 pub record DayOutcome (input out : List ℕ) (r : Printed) (out′ : List ℕ) : Type 0 where
-  pub fits : length out ≡ OUTPUT-BYTES → ComesBack (opening input) out r out′
+  pub fits : length out ≡ OUTPUT-BYTES → AfterOpening (opening input) out r out′
   pub unfit : (length out ≡ OUTPUT-BYTES → ⊥) → Kept (record { name = Length; place = 0 }) out r out′
 
 -- ---- the program

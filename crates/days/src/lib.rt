@@ -3,7 +3,7 @@ ghost use lib.ListN.{length};
 ghost use Rattle.openings.specs.Opening.{opening};
 ghost use Rattle.day_lines.specs.Lines.{OUTPUT-BYTES};
 ghost use Rattle.day_lines.specs.Run.{Accepted, RunsTo, openingOf};
-ghost use Rattle.days.specs.Day.{unprinted, ComesBack, DayOutcome};
+ghost use Rattle.days.specs.Day.{unprinted, AfterOpening, DayOutcome};
 use answers::Name;
 use answers::Refusal;
 use answers::Verdict;
@@ -69,7 +69,7 @@ fn print_lines(
     out: &mut [u8],
 ) -> Printed
     requires { ⌜ Accepted plan (now periodics) (now triggers) (now tape) (now out) ⌝ }
-    ensures { λ p. ⌜ ComesBack (openingOf plan (now (periodics .entry)) (now (triggers .entry)) (now (tape .entry))) (now (out .entry)) p (now (out .exit)) ⌝ }
+    ensures { λ p. ⌜ AfterOpening (openingOf plan (now (periodics .entry)) (now (triggers .entry)) (now (tape .entry))) (now (out .entry)) p (now (out .exit)) ⌝ }
 {
     run(plan, periodics, triggers, tape, out);
     Printed {
@@ -81,7 +81,7 @@ fn print_lines(
 // A day, into a buffer that has its length.
 fn print_day(input: &[u8], out: &mut [u8]) -> Printed
     requires { ⌜ length (now out) ≡ OUTPUT-BYTES ⌝ }
-    ensures { λ p. ⌜ ComesBack (opening (now (input .entry))) (now (out .entry)) p (now (out .exit)) ⌝ }
+    ensures { λ p. ⌜ AfterOpening (opening (now (input .entry))) (now (out .entry)) p (now (out .exit)) ⌝ }
 {
     let mut periodics = [0u8; 2048];
     let mut triggers = [0u8; 3328];

@@ -22,12 +22,12 @@ use Rattle.answers.specs.Laws.{no-pass}
 use Rattle.openings.specs.Opening.{Opening, opens, refuses, opening}
 use Rattle.day_lines.specs.Lines.{OUTPUT-BYTES}
 use Rattle.days.specs.declared.Printed.{Printed}
-use Rattle.days.specs.Day.{PrintsDay, Prints, ComesBack, DayOutcome, writtenBy, written}
+use Rattle.days.specs.Day.{PrintsDay, Prints, AfterOpening, DayOutcome, writtenBy, written}
 use Rattle.days.specs.Laws.Exact.{prints-one}
 use Rattle.claims.specs.Laws.Numbers.{not-ok}
 
 -- what is written of what comes back is what is printed of the opening
-written-prints : (o : Opening) (out : List ℕ) (r : Printed) (out′ : List ℕ) → ComesBack o out r out′ → Prints o (written r out′)
+written-prints : (o : Opening) (out : List ℕ) (r : Printed) (out′ : List ℕ) → AfterOpening o out r out′ → Prints o (written r out′)
 written-prints (opens sh RQ last) out r out′ f =
     let s : List ℕ = f .printed in
     let e : written r out′ ≡ s = (λ i. writtenBy (f .verdict i) (f .size i) (f .buffer i)) ∙ take-append-seam s (drop (length s) out) in
@@ -42,7 +42,7 @@ day-prints input out r out′ l d =
     (w, λ other p. prints-one input other (written r out′) p w)
 
 -- where a refusal comes back, the buffer is as it came
-back-keeps : (o : Opening) (out : List ℕ) (r : Printed) (out′ : List ℕ) → ComesBack o out r out′ → (x : Refusal) → r .verdict ≡ Refuse x → (r .length ≡ 0) × (out′ ≡ out)
+back-keeps : (o : Opening) (out : List ℕ) (r : Printed) (out′ : List ℕ) → AfterOpening o out r out′ → (x : Refusal) → r .verdict ≡ Refuse x → (r .length ≡ 0) × (out′ ≡ out)
 back-keeps (opens sh RQ last) out r out′ f x e = no-pass x (sym e ∙ f .verdict)
 back-keeps (refuses y) out r out′ k x e = (ap (λ (p : Printed). p .length) (k .0), k .1)
 
@@ -62,7 +62,7 @@ answerTo (opens sh RQ last) = Pass
 answerTo (refuses x) = Refuse x
 
 -- and so what comes back of it has
-back-answers : (o : Opening) (out : List ℕ) (r : Printed) (out′ : List ℕ) → ComesBack o out r out′ → r .verdict ≡ answerTo o
+back-answers : (o : Opening) (out : List ℕ) (r : Printed) (out′ : List ℕ) → AfterOpening o out r out′ → r .verdict ≡ answerTo o
 back-answers (opens sh RQ last) out r out′ f = f .verdict
 back-answers (refuses x) out r out′ k = ap (λ (p : Printed). p .verdict) (k .0)
 

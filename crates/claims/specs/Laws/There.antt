@@ -46,7 +46,7 @@ use Rattle.openings.specs.Planned.{planned}
 use Rattle.days.specs.declared.Printed.{Printed}
 use Rattle.day_lines.specs.Lines.{minuteLines, OUTPUT-BYTES}
 use Rattle.day_lines.specs.Run.{rulesOf, openingOf}
-use Rattle.days.specs.Day.{Prints, unprinted, ComesBack, DayOutcome}
+use Rattle.days.specs.Day.{Prints, unprinted, AfterOpening, DayOutcome}
 use Rattle.days.specs.Laws.Exact.{prints-one, day-exact}
 use Rattle.days.specs.Laws.Opened.{Opens-to, plan-opens, plan-refuses}
 
@@ -117,7 +117,7 @@ pub one-day : (input : List ℕ) → ExactlyOne (Prints (opening input))
 one-day input = let s = by-answer input (planned input .answer) refl in (s .0, s .1, λ other y. prints-one input other (s .0) y (s .1))
 
 -- what comes back of it
-back : (o : Opening) → Printing o → (out : List ℕ) → (r : Printed) × (out′ : List ℕ) × ComesBack o out r out′
+back : (o : Opening) → Printing o → (out : List ℕ) → (r : Printed) × (out′ : List ℕ) × AfterOpening o out r out′
 back (opens sh RQ last) (s, d) out =
     (record { verdict = Pass; length = length s }, s ++ drop (length s) out, record { printed = s; day = d; verdict = refl; size = refl; buffer = refl })
 back (refuses x) s out = (unprinted x, out, (refl, refl))

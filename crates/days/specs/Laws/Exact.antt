@@ -26,7 +26,7 @@ use Rattle.openings.specs.Planned.{planned}
 use Rattle.day_lines.specs.Lines.{minuteLines, OUTPUT-BYTES}
 use Rattle.day_lines.specs.Run.{rulesOf, openingOf}
 use Rattle.days.specs.declared.Printed.{Printed}
-use Rattle.days.specs.Day.{Prints, ComesBack, DayOutcome}
+use Rattle.days.specs.Day.{Prints, AfterOpening, DayOutcome}
 use Rattle.days.specs.Laws.Opened.{Opens-to, plan-opens, plan-refuses}
 
 -- an opening prints one thing
@@ -53,7 +53,7 @@ pub prints-one : (input a b : List ℕ) → Prints (opening input) a → Prints 
 prints-one input = by-answer input (planned input .answer) refl
 
 -- and one thing comes back of it
-back-one : (o : Opening) → One o → (out : List ℕ) (r r′ : Printed) (b b′ : List ℕ) → ComesBack o out r b → ComesBack o out r′ b′ → (r ≡ r′) × (b ≡ b′)
+back-one : (o : Opening) → One o → (out : List ℕ) (r r′ : Printed) (b b′ : List ℕ) → AfterOpening o out r b → AfterOpening o out r′ b′ → (r ≡ r′) × (b ≡ b′)
 back-one (opens sh RQ last) one out r r′ b b′ x y =
     let e : x .printed ≡ y .printed = one (x .printed) (y .printed) (x .day) (y .day) in
     let v : r .verdict ≡ r′ .verdict = exact (x .verdict) (y .verdict) in

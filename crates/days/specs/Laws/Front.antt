@@ -21,11 +21,11 @@ use Rattle.openings.specs.declared.Plan.{Plan}
 use Rattle.day_lines.specs.Lines.{minuteLines, LINE}
 use Rattle.day_lines.specs.Run.{rulesOf, Accepted, RunsTo, openingOf}
 use Rattle.day_lines.specs.Laws.Lines.{lines-size, lines-front, lines-same}
-use Rattle.days.specs.Day.{ComesBack}
+use Rattle.days.specs.Day.{AfterOpening}
 
 -- the lines of any run are those of the canonical execution model
 pub front-lines : (plan : Plan) (p t tape out out′ : List ℕ) → Accepted plan p t tape out → RunsTo plan p t tape out out′ → (n : ℕ) → n ≡ LINE * (plan .last + 1)
-    → ComesBack (openingOf plan p t tape) out (record { verdict = Pass; length = n }) out′
+    → AfterOpening (openingOf plan p t tape) out (record { verdict = Pass; length = n }) out′
 unfolding sheetOf
 front-lines plan p t tape out out′ ok to n e =
     let sh : Sheet = sheetIn (rulesOf plan p t) in

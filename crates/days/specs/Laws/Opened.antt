@@ -36,7 +36,7 @@ use Rattle.openings.specs.Planned.{Planned, opened, byHeard, byTape, bySheet, b
 use Rattle.day_lines.specs.Lines.{OUTPUT-BYTES}
 use Rattle.day_lines.specs.Run.{rulesOf, Accepted, openingOf}
 use Rattle.days.specs.declared.Printed.{Printed}
-use Rattle.days.specs.Day.{ComesBack}
+use Rattle.days.specs.Day.{AfterOpening}
 
 -- what an input that opens has
 pub record Opens-to (input : List ℕ) (plan : Plan) (p t : List ℕ) : Type 0 where
@@ -157,8 +157,8 @@ module _ (input : List ℕ) (plan : Plan) (p t : List ℕ) (x : Opens-to input p
         buffer = c;
       }
 
-  pub opened-back : (out : List ℕ) (r : Printed) (out′ : List ℕ) → ComesBack (openingOf plan p t tape) out r out′ → ComesBack (opening input) out r out′
-  opened-back out r out′ f = subst (λ (o : Opening). ComesBack o out r out′) (ap (openingOf plan p t) part ∙ sym (x .opens-it)) f
+  pub opened-back : (out : List ℕ) (r : Printed) (out′ : List ℕ) → AfterOpening (openingOf plan p t tape) out r out′ → AfterOpening (opening input) out r out′
+  opened-back out r out′ f = subst (λ (o : Opening). AfterOpening o out r out′) (ap (openingOf plan p t) part ∙ sym (x .opens-it)) f
 
-pub refused-back : (input : List ℕ) (x : Refusal) → opening input ≡ refuses x → (out : List ℕ) (r : Printed) (out′ : List ℕ) → ComesBack (refuses x) out r out′ → ComesBack (opening input) out r out′
-refused-back input x e out r out′ f = subst (λ (o : Opening). ComesBack o out r out′) (sym e) f
+pub refused-back : (input : List ℕ) (x : Refusal) → opening input ≡ refuses x → (out : List ℕ) (r : Printed) (out′ : List ℕ) → AfterOpening (refuses x) out r out′ → AfterOpening (opening input) out r out′
+refused-back input x e out r out′ f = subst (λ (o : Opening). AfterOpening o out r out′) (sym e) f
