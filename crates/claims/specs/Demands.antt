@@ -35,7 +35,9 @@ use Rattle.sheet.specs.Sheet.{reading}
 use Rattle.row_judge.specs.Judge.{Rules, sheetIn}
 use Rattle.requests.specs.Requests.{AllFit}
 use Rattle.step.specs.Outcome.{Lent, Outcome}
+use Rattle.step.specs.Used.{SameRules}
 use Rattle.step.specs.Laws.Exact
+use Rattle.step.specs.Laws.Used
 use Rattle.runs.specs.Runs.{Steps, GoesOn, IsPapers}
 use Rattle.runs.specs.Laws.{run-is-papers}
 use Rattle.openings.specs.Opening.{opens, refuses, opening}
@@ -85,6 +87,10 @@ step-total = There.step-total
 pub step-keeps : (R : Rules) (q : Asked) (l a : Lent) (r : Refusal) → Outcome R q l (Refuse r) a → a ≡ l
 step-keeps R q l a r o = o .refused r refl
 
+-- Unused rows, and the event and condition places of a trigger past its counts, are ignored: two steps with the same counts, used rows, state and requests have the same outcome.
+pub unused-ignored : (R R′ : Rules) → SameRules R R′ → (q : Asked) (l : Lent) (v v′ : Verdict) (a a′ : Lent) → Outcome R q l v a → Outcome R′ q l v′ a′ → (v ≡ v′) × (a ≡ a′)
+unused-ignored = Used.used-exact
+
 -- Any input, with any lent buffer, has exactly one outcome: an answer with the number of bytes printed there, and what the buffer holds then.
 pub day-total : (input out : List ℕ) → ExactlyOne (λ (o : Printed × List ℕ). DayOutcome input out (o .0) (o .1))
 day-total = There.day-total
@@ -131,9 +137,10 @@ step-loops = Step.step-loops
 pub step-ok : (R : Rules) (q : Asked) (l : Lent) (v : Verdict) (a : Lent) → Outcome R q l v a → (answered v ≡ record { number = 0; place = 0 }) ↔ (Ordered R q l × NoLoop (sheetIn R) × AllFit (R .roleCount) q)
 step-ok = Step.step-ok
 
--- From the empty start, over any run of accepted steps under one sheet, events and roles are the paper's: whatever requests come later, there is exactly one canonical execution model
--- (004, definitions 3.7 to 3.9), and the steps agree with it in the events of each instant and in the roles before and after it.
-pub run-is-the-papers : (n : ℕ) (R : Rules) (asked : ℕ → Asked) (before after : ℕ → Lent) → Steps (suc n) R asked before after → (RQ : Stream) → GoesOn (suc n) R asked RQ
+-- From the empty start, over any run of accepted steps under one sheet, events and roles are the paper's: whatever stands in unused places of the tables that are lent to each, and whatever
+-- requests come later, there is exactly one canonical execution model (004, definitions 3.7 to 3.9), and the steps agree with it in the events of each instant and in the roles before and
+-- after it.
+pub run-is-the-papers : (n : ℕ) (R : Rules) (tables : ℕ → Rules) (asked : ℕ → Asked) (before after : ℕ → Lent) → Steps (suc n) R tables asked before after → (RQ : Stream) → GoesOn (suc n) R asked RQ
     → IsPapers (suc n) R before after RQ
 run-is-the-papers = run-is-papers
 
@@ -193,15 +200,15 @@ pub not-all-passed : (answered (verdictOf (reading looped noPeriodics noTriggers
 not-all-passed = (ap (λ (o : ReadOutcome). answered (verdictOf (o .answer))) Looped.not-all-passed, Looped.not-all-passed)
 
 -- The first two minutes of the worked input can be run,
-pub minutes-run : (before : ℕ → Lent) × (after : ℕ → Lent) × Steps 2 worked asked before after
+pub minutes-run : (before : ℕ → Lent) × (after : ℕ → Lent) × Steps 2 worked (λ t. worked) asked before after
 minutes-run = Shut.minutes-run
 
 -- and in any run of them: a step with one fixed set, or a box right at its first instant that afterwards repeats itself, has the wrong events,
-pub not-one-set : (before after : ℕ → Lent) → Steps 2 worked asked before after → after 0 .events ≡ after 1 .events → ⊥
+pub not-one-set : (tables : ℕ → Rules) (before after : ℕ → Lent) → Steps 2 worked tables asked before after → after 0 .events ≡ after 1 .events → ⊥
 not-one-set = Shut.not-one-set
 
 -- a step that leaves the roles as they were has the wrong roles,
-pub not-same-roles : (before after : ℕ → Lent) → Steps 2 worked asked before after → before 1 .roles ≡ after 1 .roles → ⊥
+pub not-same-roles : (tables : ℕ → Rules) (before after : ℕ → Lent) → Steps 2 worked tables asked before after → before 1 .roles ≡ after 1 .roles → ⊥
 not-same-roles = Shut.not-same-roles
 
 -- and in no step does the instant stay.
@@ -213,5 +220,5 @@ pub count-is-the-solutions : (R : Rules) (q : Asked) (l a : Lent) → Outcome R 
 count-is-the-solutions R q l a o S s = sym (ap countIn (Exact.step-solves R q l a o .1 S s))
 
 -- in the worked input's first two minutes 0, then 2.
-pub counts-are : (before after : ℕ → Lent) → Steps 2 worked asked before after → (countIn (eventsOf (after 0 .events)) ≡ 0) × (countIn (eventsOf (after 1 .events)) ≡ 2)
+pub counts-are : (tables : ℕ → Rules) (before after : ℕ → Lent) → Steps 2 worked tables asked before after → (countIn (eventsOf (after 0 .events)) ≡ 0) × (countIn (eventsOf (after 1 .events)) ≡ 2)
 counts-are = Shut.counts-are

@@ -9,12 +9,12 @@ use native.Mathlib.Omega.{arith}
 use lib.Dec.{ltb}
 use Rattle.theory.specs.LoopTest.{PAIRS, loopPlace}
 use Rattle.theory.specs.Laws.Tests.{test}
-use Rattle.theory.specs.Laws.Loop.{loop-place-same}
+use Rattle.theory.specs.Laws.Used.{trigger-itself, loop-place-used}
 use Rattle.answers.specs.declared.Refusal.{Refusal}
 use Rattle.answers.specs.declared.Name.the-variants.{Loop}
 use Rattle.answers.specs.declared.Verdict.{Verdict}
 use Rattle.answers.specs.declared.Verdict.the-variants.{Pass, Refuse}
-use Rattle.tables.specs.Layout.{sheetOf, triggersOf}
+use Rattle.tables.specs.Layout.{triggerAt, sheetOf, triggersOf}
 use Rattle.loops.specs.Tested.{foundAt}
 use Rattle.judge.specs.Judged.{loopVerdict}
 use Rattle.judge.specs.Laws.Found.{found-place, found-none}
@@ -27,7 +27,7 @@ pub mod Exact
 -- the test looks at the triggers alone
 read-loop : (s : Seen) (per trg : List ℕ) → loopPlace (sheetRead (progress s per trg)) ≡ loopPlace (triggersOf (s .triggers) trg)
 unfolding sheetOf
-read-loop s per trg = loop-place-same (sheetRead (progress s per trg)) (triggersOf (s .triggers) trg) refl refl
+read-loop s per trg = loop-place-used (sheetRead (progress s per trg)) (triggersOf (s .triggers) trg) refl (λ i l. trigger-itself (triggerAt trg i))
 
 -- by the place that the loop test finds
 module _ (s : Progress) (p t : List ℕ) (k : ℕ) where

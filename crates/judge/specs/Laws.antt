@@ -83,7 +83,7 @@ module _ (sh : Sheet) where
   -- ---- whatever the judge says is so
 
   -- the rows pass and are in good order, or they are refused for what the refusal says
-  rows-say : ((judgeRows sh ≡ Pass) × GoodOrder sh) ⊎ ((r : Refusal) × (judgeRows sh ≡ Refuse r) × Says sh (Refuse r))
+  pub rows-say : ((judgeRows sh ≡ Pass) × GoodOrder sh) ⊎ ((r : Refusal) × (judgeRows sh ≡ Refuse r) × Says sh (Refuse r))
   unfolding firstUnfit
   rows-say =
       ⊎-elim

@@ -1,14 +1,16 @@
 -- Laws of the rows' verdict: which it is by its tests, and where the first row stands that does not hold what it may.
 -- Assumes nothing.
-use mathlib.Core.Path.{_≡_, refl, sym, ap, _∙_}
+use mathlib.Core.Path.{_≡_, refl, sym, ap, ap₂, _∙_}
+use mathlib.Core.Logic.{by-cases}
 use mathlib.Core.Bool.{Bool, true, false, not}
 use mathlib.Core.List.{List}
 use Prim.Native.Nat.{ℕ, _+_, _-_, _≤_, _<_}
+use native.Mathlib.Decide.{decLt}
 use native.Mathlib.Omega.{arith}
 use borrow.Author.Tests.{lt-ltb, le-ltb}
 use Rattle.theory.specs.Below.{firstBelow}
 use Rattle.theory.specs.Sheet.{Sheet, periodicFits, triggerFits}
-use Rattle.theory.specs.Laws.First.{first-low, first-high}
+use Rattle.theory.specs.Laws.First.{first-low, first-high, first-same}
 use Rattle.answers.specs.declared.Name.the-variants.{Field, TooMany}
 use Rattle.answers.specs.declared.Verdict.{Verdict}
 use Rattle.answers.specs.declared.Verdict.the-variants.{Pass}
@@ -81,3 +83,26 @@ module _ (roleCount p t : ℕ) (periodics triggers : List ℕ) where
     unfit-trigger l j q =
         ap (λ (m : ℕ). p + m) q
         ∙ sym (first-high p t (λ k. not (rowFits sh k)) (unfitPeriodic roleCount periodics) (unfitTrigger roleCount triggers) unfitLow unfitHigh (omega arith))
+
+-- ---- the verdict looks at the used rows alone: sheets whose rows hold what they may alike are judged alike
+
+module _ (a b : Sheet) (n : a .roleCount ≡ b .roleCount) (p : a .periodicCount ≡ b .periodicCount) (t : a .triggerCount ≡ b .triggerCount)
+    (periodics : (i : ℕ) → i < a .periodicCount → periodicFits (a .roleCount) (a .periodic i) ≡ periodicFits (b .roleCount) (b .periodic i))
+    (triggers : (i : ℕ) → i < a .triggerCount → triggerFits (a .roleCount) (a .trigger i) ≡ triggerFits (b .roleCount) (b .trigger i)) where
+  row-same : (k : ℕ) → k < rowCount a → rowFits a k ≡ rowFits b k
+  row-same k l =
+      by-cases (decLt k (a .periodicCount))
+      (λ (m : k < a .periodicCount). fits-periodic a k m ∙ (periodics k m ∙ sym (fits-periodic b k (omega arith))))
+      (λ (m : ¬ (k < a .periodicCount)).
+      let i : ℕ = k - a .periodicCount in
+      let e : k ≡ a .periodicCount + i = omega arith in
+      let f : k ≡ b .periodicCount + i = omega arith in
+      (ap (rowFits a) e ∙ fits-trigger a i) ∙ (triggers i (omega arith) ∙ sym (ap (rowFits b) f ∙ fits-trigger b i)))
+
+  unfit-same : firstUnfit a ≡ firstUnfit b
+  unfolding firstUnfit
+  unfit-same = first-same (rowCount a) _ _ (λ k l. ap not (row-same k l)) ∙ ap (λ (m : ℕ). firstBelow m (λ k. not (rowFits b k))) (ap₂ _+_ p t)
+
+  pub rows-same : judgeRows a ≡ judgeRows b
+  unfolding judgeRows fewRows rolesFit
+  rows-same = rw (unfit-same, n, p, t)

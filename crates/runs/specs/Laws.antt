@@ -14,6 +14,7 @@ use Rattle.theory.specs.Model.{Stream, noRoles}
 use Rattle.theory.specs.Box.{State, Step, Run, Within}
 use Rattle.theory.specs.Laws.Exists.{is-only}
 use Rattle.theory.specs.Laws.Run.{canonical-run}
+use Rattle.answers.specs.declared.Verdict.the-variants.{Pass}
 use Rattle.tables.specs.Layout.{sheetOf}
 use Rattle.tables.specs.Buffers.{rolesOf, eventsOf, waitingOf}
 use Rattle.tables.specs.Asked.{Asked, asks}
@@ -22,21 +23,30 @@ use Rattle.masks.specs.Laws.Held.{waiting-none}
 use Rattle.row_judge.specs.Judge.{Rules, sheetIn}
 use Rattle.judge.specs.Laws.{judge-passes}
 use Rattle.requests.specs.Laws.{asks-elim, requests-pass}
-use Rattle.step.specs.Outcome.{Lent, stateIn}
+use Rattle.step.specs.Outcome.{Lent, stateIn, Outcome}
 use Rattle.step.specs.Laws.Passes.{Accepted, step-passes}
+use Rattle.step.specs.Laws.Used.{outcome-used}
 use Rattle.runs.specs.Runs.{HandedOn, Steps, GoesOn, IsPapers}
 
 -- the same state, whatever the events buffers hold
 handed-state : (a b : Lent) → HandedOn a b → stateIn b ≡ stateIn a
 handed-state a b h = λ i. record { instant = h .instant i; roles = rolesOf (h .roles i); waiting = waitingOf (h .waiting i) }
 
-module _ (n : ℕ) (R : Rules) (asked : ℕ → Asked) (before after : ℕ → Lent) (steps : Steps (suc n) R asked before after) where
+-- each step is one with the tables of the sheet itself
+pub under-sheet : (n : ℕ) (R : Rules) (tables : ℕ → Rules) (asked : ℕ → Asked) (before after : ℕ → Lent) → Steps n R tables asked before after → (t : ℕ) → t < n
+    → Outcome R (asked t) (before t) Pass (after t)
+under-sheet n R tables asked before after steps t l = outcome-used R (tables t) (steps .one-sheet t l) (asked t) (before t) Pass (after t) .1 (steps .ok t l)
+
+module _ (n : ℕ) (R : Rules) (tables : ℕ → Rules) (asked : ℕ → Asked) (before after : ℕ → Lent) (steps : Steps (suc n) R tables asked before after) where
   abbrev sh : Sheet
   sh = sheetIn R
 
+  passes : (t : ℕ) → t < suc n → Outcome R (asked t) (before t) Pass (after t)
+  passes = under-sheet (suc n) R tables asked before after steps
+
   -- what each step tested
   accepted : (t : ℕ) → t < suc n → Accepted R (asked t) (before t)
-  accepted t l = step-passes R (asked t) (before t) (sym (steps .ok t l .judged))
+  accepted t l = step-passes R (asked t) (before t) (sym (passes t l .judged))
 
   good : GoodOrder sh × NoLoop sh
   good = judge-passes sh (accepted 0 (omega arith) .tables)
@@ -77,7 +87,7 @@ module _ (n : ℕ) (R : Rules) (asked : ℕ → Asked) (before after : ℕ → L
             waiting = λ k e p l. ap (λ (w : List ℕ). waitingOf w k e p) (steps .fresh .waiting) ∙ waiting-none k e p l;
           };
           step = λ t l.
-              let x : Step sh (asks (asked t)) (stateIn (before t)) (eventsOf (after t .events)) (stateIn (after t)) = steps .ok t l .passed refl .step in
+              let x : Step sh (asks (asked t)) (stateIn (before t)) (eventsOf (after t .events)) (stateIn (after t)) = passes t l .passed refl .step in
               let y : Step sh (RQ t) (stateIn (before t)) (eventsOf (after t .events)) (stateIn (after t))
               = subst (λ (q : Requests). Step sh q (stateIn (before t)) (eventsOf (after t .events)) (stateIn (after t))) (sym (same-asked t l)) x in
               subst (λ (s : State). Step sh (RQ t) s (eventsOf (after t .events)) (stateIn (after t))) (state-before t l) y;

@@ -12,6 +12,7 @@ use Rattle.tables.specs.Buffers.{rolesOf, eventsOf}
 use Rattle.tables.specs.Asked.{Asked, asks}
 use Rattle.row_judge.specs.Judge.{Rules, sheetIn}
 use Rattle.step.specs.Outcome.{Lent, Outcome}
+use Rattle.step.specs.Used.{SameRules}
 
 -- instant 0, no roles, all zeros; an events buffer may hold anything
 pub record FreshLent (l : Lent) : Type 0 where
@@ -25,10 +26,12 @@ pub record HandedOn (after before : Lent) : Type 0 where
   pub roles : before .roles ≡ after .roles
   pub waiting : before .waiting ≡ after .waiting
 
--- n steps: what is lent before each and what it is after, and the requests of each.
-pub record Steps (n : ℕ) (R : Rules) (asked : ℕ → Asked) (before after : ℕ → Lent) : Type 0 where
+-- n steps under one sheet, R: the tables and the requests of each, and what is lent before it and after. The tables are those of R in all that is used; what stands in unused places may
+-- change from step to step.
+pub record Steps (n : ℕ) (R : Rules) (tables : ℕ → Rules) (asked : ℕ → Asked) (before after : ℕ → Lent) : Type 0 where
   pub fresh : FreshLent (before 0)
-  pub ok : (t : ℕ) → t < n → Outcome R (asked t) (before t) Pass (after t)
+  pub one-sheet : (t : ℕ) → t < n → SameRules R (tables t)
+  pub ok : (t : ℕ) → t < n → Outcome (tables t) (asked t) (before t) Pass (after t)
   pub on : (t : ℕ) → suc t < n → HandedOn (after t) (before (suc t))
 
 -- A request stream that goes on from those requests: theirs in the first n instants, and within the limits in all later ones.

@@ -4,3 +4,4 @@ pub mod Passes
 pub mod Acted
 pub mod Whole
 pub mod Exact
+pub mod Used

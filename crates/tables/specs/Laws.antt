@@ -10,6 +10,7 @@ use lib.ListN.{length, getD, set, drop-of-length-le}
 use lib.Seq.{paste, paste-suc, take-length}
 use Rattle.tables.specs.Layout.{TRIGGER-BYTES, byteAt, triggerFrom, triggerAt}
 pub mod Sample
+pub mod Used
 
 -- ---- the single bytes of a trigger, as `trigger_byte` reads them
 

@@ -2,4 +2,5 @@
 pub mod Layout
 pub mod Buffers
 pub mod Asked
+pub mod Used
 pub mod Laws

@@ -16,5 +16,6 @@ pub mod Loop
 pub mod History
 pub mod Rows
 pub mod Run
+pub mod Used
 pub mod Sentences
 pub mod Exact

@@ -21,8 +21,11 @@ use Rattle.masks.specs.Laws.Held.{roles-one, waiting-none, waiting-one}
 use Rattle.frames.specs.Frame.{value}
 use Rattle.requests.specs.Requests.{fits, AllFit}
 use Rattle.accepted.specs.Laws.Accepted.{reading-good, reading-sizes}
+use Rattle.row_judge.specs.Judge.{Rules}
 use Rattle.step.specs.Outcome.{Lent, lent, stateIn, judgeStep, Outcome}
+use Rattle.step.specs.Laws.Used.{rules-itself}
 use Rattle.runs.specs.Runs.{FreshLent, HandedOn, Steps}
+use Rattle.runs.specs.Laws.{under-sheet}
 use Rattle.examples.specs.Written.{_∶_, Prioritized, among, first, rolesIn, rowsIn, stateOf}
 use Rattle.examples.specs.Day.{Worked}
 use Rattle.examples.specs.Table.{input, all-say}
@@ -71,36 +74,37 @@ record FirstTwo (before after : ℕ → Lent) : Type 0 where
 minute-0 : (l a : Lent) → SameState (stateIn l) (stateOf 0 [] []) → Outcome worked (asked 0) l Pass a → (eventsOf (a .events) ≡ among []) × SameState (stateIn a) (stateOf 1 [] [])
 minute-0 l a s o = is-worked .minutes .0 .same (stateIn l) s (eventsOf (a .events)) (stateIn a) (o .passed refl .step)
 
-first-two : (before after : ℕ → Lent) → Steps 2 worked asked before after → FirstTwo before after
-first-two before after steps =
+first-two : (tables : ℕ → Rules) (before after : ℕ → Lent) → Steps 2 worked tables asked before after → FirstTwo before after
+first-two tables before after steps =
+    let ok = under-sheet 2 worked tables asked before after steps in
     let f : FreshLent (before 0) = steps .fresh in
-    let x = minute-0 (before 0) (after 0) (zeros (before 0) 0 (f .instant) (f .roles) (f .waiting)) (steps .ok 0 (omega arith)) in
+    let x = minute-0 (before 0) (after 0) (zeros (before 0) 0 (f .instant) (f .roles) (f .waiting)) (ok 0 (omega arith)) in
     let s : SameState (stateIn (before 1)) (stateOf 1 [] []) = handed (after 0) (before 1) (stateOf 1 [] []) (steps .on 0 (omega arith)) (x .1) in
-    let y = is-worked .minutes .1 .0 .same (stateIn (before 1)) s (eventsOf (after 1 .events)) (stateIn (after 1)) (steps .ok 1 (omega arith) .passed refl .step) in
+    let y = is-worked .minutes .1 .0 .same (stateIn (before 1)) s (eventsOf (after 1 .events)) (stateIn (after 1)) (ok 1 (omega arith) .passed refl .step) in
     record { no-events = x .0; three-events = y .0; roles-before = s .roles; roles-after = y .1 .roles }
 
 -- they differ in their events
-pub not-one-set : (before after : ℕ → Lent) → Steps 2 worked asked before after → after 0 .events ≡ after 1 .events → ⊥
+pub not-one-set : (tables : ℕ → Rules) (before after : ℕ → Lent) → Steps 2 worked tables asked before after → after 0 .events ≡ after 1 .events → ⊥
 unfolding first anyBelow
-not-one-set before after steps e =
-    let x : FirstTwo before after = first-two before after steps in
+not-one-set tables before after steps e =
+    let x : FirstTwo before after = first-two tables before after steps in
     let f : among [] ≡ among three = sym (x .no-events) ∙ (ap eventsOf e ∙ x .three-events) in
     false≢true (ap (λ (S : Events). S (enable 0) 4) f)
 
 -- the second changes the roles
-pub not-same-roles : (before after : ℕ → Lent) → Steps 2 worked asked before after → before 1 .roles ≡ after 1 .roles → ⊥
+pub not-same-roles : (tables : ℕ → Rules) (before after : ℕ → Lent) → Steps 2 worked tables asked before after → before 1 .roles ≡ after 1 .roles → ⊥
 unfolding rolesIn anyBelow
-not-same-roles before after steps e =
-    let x : FirstTwo before after = first-two before after steps in
+not-same-roles tables before after steps e =
+    let x : FirstTwo before after = first-two tables before after steps in
     let f : rolesIn [] ≡ rolesIn (0 ∷ []) = sym (x .roles-before) ∙ (ap rolesOf e ∙ x .roles-after) in
     false≢true (ap (λ (S : Roles). S 0) f)
 
 -- and the count of events with a nonblocked member is 0, then 2
-pub counts-are : (before after : ℕ → Lent) → Steps 2 worked asked before after
+pub counts-are : (tables : ℕ → Rules) (before after : ℕ → Lent) → Steps 2 worked tables asked before after
     → (countIn (eventsOf (after 0 .events)) ≡ 0) × (countIn (eventsOf (after 1 .events)) ≡ 2)
 unfolding countBelow nonblocked blocked blocks conf first anyBelow
-counts-are before after steps =
-    let x : FirstTwo before after = first-two before after steps in
+counts-are tables before after steps =
+    let x : FirstTwo before after = first-two tables before after steps in
     (ap countIn (x .no-events), ap countIn (x .three-events))
 
 -- ---- such a run is there
@@ -157,7 +161,7 @@ at a b zero = a
 at a b (suc t) = b
 
 -- THE RUN of the first two minutes
-pub minutes-run : (before : ℕ → Lent) × (after : ℕ → Lent) × Steps 2 worked asked before after
+pub minutes-run : (before : ℕ → Lent) × (after : ℕ → Lent) × Steps 2 worked (λ t. worked) asked before after
 unfolding at rolesIn rowsIn anyBelow
 minutes-run =
     let x = from-quiet 0 (omega arith) in
@@ -174,6 +178,7 @@ minutes-run =
       at (x .0) (y .0),
       record {
         fresh = record { instant = refl; roles = refl; waiting = refl };
+        one-sheet = λ t l. rules-itself worked;
         ok = two (λ t. Outcome worked (asked t) (at (quiet 0) (quiet 1) t) Pass (at (x .0) (y .0) t)) (x .1) (y .1);
         on = λ t. elim t [ zero ↦ λ l. on | suc u ↦ λ l. absurd (omega (arith, l)) ];
       },

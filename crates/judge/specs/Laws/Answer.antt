@@ -9,12 +9,12 @@ use lib.ListN.{replicate}
 use Rattle.theory.specs.Numbers.{EVENTS}
 use Rattle.theory.specs.Sheet.{Sheet}
 use Rattle.theory.specs.LoopTest.{PAIRS}
-use Rattle.theory.specs.Laws.Loop.{loop-place-same, level-same}
+use Rattle.theory.specs.Laws.Used.{trigger-itself, loop-place-used, level-used}
 use Rattle.answers.specs.declared.Name.the-variants.{Loop}
 use Rattle.answers.specs.declared.Refusal.{Refusal}
 use Rattle.answers.specs.declared.Verdict.{Verdict}
 use Rattle.answers.specs.declared.Verdict.the-variants.{Pass, Refuse}
-use Rattle.tables.specs.Layout.{sheetOf, triggersOf}
+use Rattle.tables.specs.Layout.{triggerAt, sheetOf, triggersOf}
 use Rattle.loops.specs.Tested.{tabulate, tested}
 use Rattle.loops.specs.declared.Tested.{Tested}
 use Rattle.answers.specs.Answers.{refuse, andThen}
@@ -60,8 +60,8 @@ module _ (roleCount p n : ℕ) (periodics triggers : List ℕ) where
   loop-judged-same =
       ap₂
       (λ (k : ℕ) (f : ℕ → ℕ). record { verdict = cond (ltb k PAIRS) (refuse Loop k) Pass; levels = tabulate EVENTS f })
-      (loop-place-same (triggersOf n triggers) tables refl refl)
-      (level-same (triggersOf n triggers) tables refl refl)
+      (loop-place-used (triggersOf n triggers) tables refl (λ i l. trigger-itself (triggerAt triggers i)))
+      (level-used (triggersOf n triggers) tables refl (λ i l. trigger-itself (triggerAt triggers i)))
 
   module _ (v : Verdict) (e : v ≡ judgeRows tables) where
     pub rows-refused : (r : Refusal) → v ≡ Refuse r → record { verdict = Refuse r; levels = replicate EVENTS 0 } ≡ judged tables

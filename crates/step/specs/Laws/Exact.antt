@@ -53,7 +53,7 @@ stepped-one R q q′ before a a′ good nl e x y =
     λ k. record { instant = i k; roles = r k; waiting = w k; events = v k }
 
 -- what was accepted has good order and no loop
-accepted : (R : Rules) (q : Asked) (before : Lent) → judgeStep R q before ≡ Pass → GoodOrder (sheetIn R) × NoLoop (sheetIn R)
+pub accepted : (R : Rules) (q : Asked) (before : Lent) → judgeStep R q before ≡ Pass → GoodOrder (sheetIn R) × NoLoop (sheetIn R)
 accepted R q before h = judge-passes (sheetIn R) (step-passes R q before h .tables)
 
 -- THE STEP IS EXACT: any two outcomes that the contract allows are equal

@@ -66,6 +66,12 @@ all-elim (suc n) f h i l =
 pub all-map : (n : ℕ) (f g : ℕ → Bool) → ((i : ℕ) → i < n → f i ≡ true → g i ≡ true) → allBelow n f ≡ true → allBelow n g ≡ true
 all-map n f g m h = all-intro n g (λ i l. m i l (all-elim n f h i l))
 
+pub all-same : (n : ℕ) (f g : ℕ → Bool) → ((i : ℕ) → i < n → f i ≡ g i) → allBelow n f ≡ allBelow n g
+all-same n f g h =
+    bool-ext (allBelow n f) (allBelow n g)
+    (all-map n f g (λ i l p. sym (h i l) ∙ p))
+    (all-map n g f (λ i l p. h i l ∙ p))
+
 -- a test of each from 0 on: none yet, one more, and the end, where i has come to n; or one that fails
 pub all-none : (f : ℕ → Bool) → allBelow 0 f ≡ true
 unfolding allBelow

@@ -1,17 +1,16 @@
 -- The loop test is exact and its place is one: a sheet has no loop, or it has one at exactly one place, which the test finds.
 -- Assumes nothing.
-use mathlib.Core.Path.{_≡_, refl, ap, ap₂, fun-ext, subst₂}
+use mathlib.Core.Path.{_≡_, subst₂}
 use mathlib.Core.Logic.{_⊎_, inl, inr, ⊎-elim, by-cases, _↔_}
-use mathlib.Core.Bool.{Bool, true, _&&_, _||_}
+use mathlib.Core.Bool.{Bool, true}
 use Prim.Native.Nat.{ℕ, _/_, _%_, _≤_, _<_}
 use native.Mathlib.Decide.{decLe}
 use native.Mathlib.Omega.{arith}
 use Rattle.theory.specs.Numbers.{EVENTS}
-use Rattle.theory.specs.Below.{countBelow, firstBelow}
 use Rattle.theory.specs.Events.{conf}
 use Rattle.theory.specs.Sheet.{Sheet}
-use Rattle.theory.specs.Graph.{counts, node, drawn, minus, edge, OnCycle, NoLoop, pairPlace, LoopAt}
-use Rattle.theory.specs.LoopTest.{through, reach, onCycle, PAIRS, loopPlace, levelOf}
+use Rattle.theory.specs.Graph.{minus, edge, OnCycle, NoLoop, pairPlace, LoopAt}
+use Rattle.theory.specs.LoopTest.{reach, onCycle, PAIRS, loopPlace}
 use Rattle.theory.specs.Laws.Tests.{and-left, and-right, and-both, not-both}
 use Rattle.theory.specs.Laws.First.{NoneBelow, FirstAt, first-says}
 use Rattle.theory.specs.Laws.Reach.{through-sound, through-complete}
@@ -102,23 +101,3 @@ module _ (sh : Sheet) (hb : HeadsBelow sh) where
         (λ (y : (loopPlace sh < PAIRS) × LoopAt sh (loopPlace sh)). let e : loopPlace sh ≡ k = loop-one sh (loopPlace sh) k (y .1) l in (omega (arith, y .0), e))
         loop-or),
   )
-
--- ---- the test looks at the triggers alone
-
-module _ (sh sh′ : Sheet) (n : sh .triggerCount ≡ sh′ .triggerCount) (g : sh .trigger ≡ sh′ .trigger) where
-  drawn-same : (from : ℕ → ℕ) → drawn from sh ≡ drawn from sh′
-  unfolding drawn node counts
-  drawn-same from = fun-ext (λ a. fun-ext (λ b. rw (n, g) refl))
-
-  edge-same : edge sh ≡ edge sh′
-  unfolding edge
-  edge-same = fun-ext (λ a. fun-ext (λ b. ap₂ (λ (p m : ℕ → ℕ → Bool). p a b || m a b) (drawn-same (λ e. e)) (drawn-same conf)))
-
-  pub loop-place-same : loopPlace sh ≡ loopPlace sh′
-  unfolding loopPlace
-  loop-place-same =
-      ap₂ (λ (m e : ℕ → ℕ → Bool). firstBelow PAIRS (λ k. m (k / EVENTS) (k % EVENTS) && through e EVENTS (k % EVENTS) (k / EVENTS))) (drawn-same conf) edge-same
-
-  pub level-same : levelOf sh ≡ levelOf sh′
-  unfolding levelOf
-  level-same = fun-ext (λ e. ap (λ (E : ℕ → ℕ → Bool). countBelow EVENTS (λ x. through E EVENTS x e)) edge-same)
