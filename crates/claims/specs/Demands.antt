@@ -20,19 +20,25 @@ use Rattle.theory.specs.LoopTest.{PAIRS, loopPlace}
 use Rattle.theory.specs.Laws.Loop
 use Rattle.theory.specs.Laws.OneSolution
 use Rattle.answers.specs.declared.Name.{Name}
-use Rattle.answers.specs.declared.Name.the-variants.{Loop as LOOP}
+use Rattle.answers.specs.declared.Name.the-variants.{Length as LENGTH, Loop as LOOP}
 use Rattle.answers.specs.declared.Refusal.{Refusal}
 use Rattle.answers.specs.declared.Verdict.{Verdict}
 use Rattle.answers.specs.declared.Verdict.the-variants.{Pass, Refuse}
 use Rattle.answers.specs.Answers.{numberOf, answered}
+use Rattle.tables.specs.Layout.{sheetOf}
 use Rattle.tables.specs.Buffers.{eventsOf, Narrow}
 use Rattle.tables.specs.Asked.{Asked}
 use Rattle.readings.specs.declared.Reading.the-variants.{Good, Bad}
+use Rattle.readings.specs.declared.Read.{Read}
 use Rattle.readings.specs.Readings.{verdictOf}
 use Rattle.line_acts.specs.Acts.{Progress}
 use Rattle.hand_out.specs.Out.{ReadOutcome, readOutcome, sheetRead, handed}
 use Rattle.sheet.specs.Sheet.{reading}
-use Rattle.row_judge.specs.Judge.{Rules, sheetIn}
+use Rattle.accepted.specs.Laws.Accepted
+use Rattle.line_by_line.specs.Lines.{linesIn, restIn, CutInto}
+use Rattle.line_by_line.specs.ComesBack.{RefusedAt, ReadsWhole, periodicTable, triggerTable, countsOf, LengthsFit, framesIn, ComesBack}
+use Rattle.line_by_line.specs.Laws.Cut
+use Rattle.row_judge.specs.Judge.{Rules, sheetIn, judgeTables}
 use Rattle.requests.specs.Requests.{AllFit}
 use Rattle.step.specs.Outcome.{Lent, Outcome}
 use Rattle.step.specs.Used.{SameRules}
@@ -49,6 +55,7 @@ use Rattle.examples.specs.Table.{table, all-say}
 use Rattle.claims.specs.Words.{ReadsInOrder, Ordered, SolvesFor, countIn, noPeriodics, noTriggers, looped, workedSheet, worked, asked}
 use Rattle.claims.specs.Laws.Numbers
 use Rattle.claims.specs.Laws.Reader
+use Rattle.claims.specs.Laws.ComesBack as Back
 use Rattle.claims.specs.Laws.Step
 use Rattle.claims.specs.Laws.There
 use Rattle.claims.specs.Laws.Day
@@ -158,6 +165,37 @@ step-hands-it-out = Exact.step-solves
 pub one-buffer-holds-it : (R : Rules) → GoodOrder (sheetIn R) → NoLoop (sheetIn R) → (q : Asked) → AllFit (R .roleCount) q → (l : Lent) → Narrow 16 (l .waiting)
     → ExactlyOne (λ (b : List ℕ). (length b ≡ EVENTS) × Narrow 16 b × SolvesFor R q l (eventsOf b))
 one-buffer-holds-it = Exact.one-buffer-served
+
+-- ==== READING, in document 01's words: its lines (line_by_line/Lines), the tests of a line by their names and in their order (line_by_line/Tests), and what comes back (line_by_line/ComesBack).
+
+-- A text is its lines, each with its final 0A, and what stands after the last 0A; it is cut so in one way, and the reader's lines are these.
+pub lines-are : (text : List ℕ) (ls : List (List ℕ)) (rest : List ℕ) → CutInto text ls rest ↔ ((ls ≡ linesIn text) × (rest ≡ restIn text))
+lines-are = Cut.lines-are
+
+-- The reader's outcome is o exactly when o comes back: LENGTH; else the first line that fails a test, with the first test that it fails; else LOOP; else the rows.
+pub reader-says : (sheet p t : List ℕ) (o : ReadOutcome) → (reading sheet p t ≡ o) ↔ ComesBack sheet p t o
+reader-says = Back.reader-says
+
+-- So a refusal at k with a name other than LENGTH and LOOP says, and is given exactly when: lines 1 to k − 1 pass all their tests, and line k fails the test of that name and passes those
+-- before it; or it is the last and has no final 0A, FRAME; or there is no line k and no end frame, KIND.
+pub reader-refuses : (sheet p t : List ℕ) (name : Name) (k : ℕ) → ¬ (name ≡ LENGTH) → ¬ (name ≡ LOOP)
+    → (reading sheet p t ≡ readOutcome (Bad (record { name = name; place = k })) p t)
+    ↔ (LengthsFit sheet p t × RefusedAt (linesIn sheet) (restIn sheet) name k)
+reader-refuses = Back.reader-refuses
+
+-- Reading goes on to its end, where LOOP alone is asked, exactly when every line passes all its tests and the end frame is there.
+pub reader-whole : (sheet p t : List ℕ) → ((s : Progress) × ReadsInOrder sheet p t s) ↔ (LengthsFit sheet p t × ReadsWhole (linesIn sheet) (restIn sheet))
+reader-whole = Back.reader-whole
+
+-- On success the role count is the header's, the counts are those of the frames, and each table holds the rows of its frames in sheet order and is otherwise zero.
+pub reader-tables : (sheet p t : List ℕ) (r : Read) (p′ t′ : List ℕ) → reading sheet p t ≡ readOutcome (Good r) p′ t′
+    → (r ≡ countsOf (framesIn sheet)) × (p′ ≡ periodicTable (framesIn sheet)) × (t′ ≡ triggerTable (framesIn sheet))
+reader-tables = Back.reader-tables
+
+-- And what the reader accepts, the judge of a step passes.
+pub reading-passes : (sheet p t : List ℕ) (r : Read) (p′ t′ : List ℕ) → reading sheet p t ≡ readOutcome (Good r) p′ t′
+    → judgeTables (sheetOf (r .roles) (r .periodics) (r .triggers) p′ t′) ≡ Pass
+reading-passes = Accepted.reading-passes
 
 -- ==== THE DAY: an input prints exactly one thing, the refusal, or the lines of the paper's canonical execution model of its sheet and its tape (`Prints`).
 pub one-day : (input : List ℕ) → ExactlyOne (Prints (opening input))

@@ -28,7 +28,7 @@ byLines (goes s) p t = afterLines s p t
 unfoldable pub lengthsFit : ℕ → ℕ → ℕ → Bool
 lengthsFit sheet p t = leb sheet SHEET-BYTES && (eqb p PERIODIC-TABLE && eqb t TRIGGER-TABLE)
 
--- THE READING: of a sheet's bytes, with the lent tables as they came
+-- THE READING: of a sheet's bytes, with the lent tables as they came. (`ComesBack`, line_by_line/ComesBack, is the same in document 01's words: `reader-says`, claims/Demands.)
 unfoldable pub reading : List ℕ → List ℕ → List ℕ → ReadOutcome
 reading sheet p t =
     cond (lengthsFit (length sheet) (length p) (length t))

@@ -24,7 +24,8 @@ verdict-goes Pass made n e = (refl, cc)
 verdict-goes (Refuse r) made n e = no-goes r n e
 
 module _ {A : Type 0} (R : Reader A) where
-  walks-refused : (r : Refusal) (ls : Lines) → walks R (refused r) ls ≡ refused r
+  -- after a refusal no line is read
+  pub walks-refused : (r : Refusal) (ls : Lines) → walks R (refused r) ls ≡ refused r
   unfolding walks
   walks-refused r none = refl
   walks-refused r (endless l) = refl
