@@ -5,14 +5,14 @@ use mathlib.Core.Bool.{true, cond}
 use mathlib.Core.List.{List, [], _∷_, _++_, map}
 use Prim.Native.Nat.{ℕ, suc, _-_, _≤_, _<_}
 use lib.Dec.{eqb}
-use lib.ListN.{length, getD, take, replicate}
+use lib.ListN.{length, getD, take}
 use Rattle.theory.specs.Numbers.{SHEET-BYTES}
 use Rattle.theory.specs.Sheet.{Sheet}
 use Rattle.theory.specs.Graph.{NoLoop, LoopAt}
 use Rattle.answers.specs.declared.Name.{Name}
 use Rattle.answers.specs.declared.Name.the-variants.{Length, Frame, Kind, Loop}
 use Rattle.frames.specs.Frame.{bytesOf}
-use Rattle.tables.specs.Layout.{PERIODIC-TABLE, TRIGGER-TABLE, sheetOf}
+use Rattle.tables.specs.Layout.{PERIODIC-TABLE, TRIGGER-TABLE, padded, sheetOf}
 use Rattle.periodic_frames.specs.Row.{periodicRow}
 use Rattle.trigger_frames.specs.Row.{triggerRow}
 use Rattle.kinds.specs.Kinds.{PERIODIC, TRIGGER, END, kind}
@@ -74,16 +74,12 @@ abbrev pub rowsOf : ℕ → (List ℕ → List ℕ) → List (List ℕ) → List
 rowsOf k row [] = []
 rowsOf k row (f ∷ fs) = cond (eqb (kind f) k) (row f) [] ++ rowsOf k row fs
 
--- a table of so many bytes that holds these rows and is otherwise zero
-abbrev pub filled : ℕ → List ℕ → List ℕ
-filled size rows = rows ++ replicate (size - length rows) 0
-
 -- THE TABLES of a sheet of these frames
 abbrev pub periodicTable : List (List ℕ) → List ℕ
-periodicTable fs = filled PERIODIC-TABLE (rowsOf PERIODIC periodicRow fs)
+periodicTable fs = padded PERIODIC-TABLE (rowsOf PERIODIC periodicRow fs)
 
 abbrev pub triggerTable : List (List ℕ) → List ℕ
-triggerTable fs = filled TRIGGER-TABLE (rowsOf TRIGGER triggerRow fs)
+triggerTable fs = padded TRIGGER-TABLE (rowsOf TRIGGER triggerRow fs)
 
 -- its role count, and how many rows it has of either kind
 abbrev pub countsOf : List (List ℕ) → Read

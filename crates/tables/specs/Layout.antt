@@ -1,9 +1,9 @@
 -- The layout of the lent tables, and the rows that they hold. A row is its frame's fields in frame order and width, numbers high byte first; a trigger has four places for
 -- events and four for conditions. (docs/TABLES.md says the same for a C programmer.)
 -- Assumes nothing.
-use mathlib.Core.List.{List, []}
-use Prim.Native.Nat.{ℕ, _+_, _*_}
-use lib.ListN.{getD}
+use mathlib.Core.List.{List, [], _++_}
+use Prim.Native.Nat.{ℕ, _+_, _-_, _*_}
+use lib.ListN.{length, getD, replicate}
 use Rattle.theory.specs.Numbers.{PERIODIC-ROWS, TRIGGER-ROWS}
 use Rattle.theory.specs.Sheet.{Periodic, Trigger, Sheet}
 
@@ -22,6 +22,10 @@ PERIODIC-TABLE = PERIODIC-ROWS * PERIODIC-BYTES
 -- the bytes of the trigger table, 256 rows
 abbrev pub TRIGGER-TABLE : ℕ
 TRIGGER-TABLE = TRIGGER-ROWS * TRIGGER-BYTES
+
+-- a table of n bytes that holds these rows and is otherwise zero
+abbrev pub padded : ℕ → List ℕ → List ℕ
+padded n rows = rows ++ replicate (n - length rows) 0
 
 -- ---- numbers, high byte first
 

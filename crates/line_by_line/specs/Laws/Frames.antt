@@ -14,7 +14,8 @@ use Rattle.theory.specs.Laws.Tests.{test}
 use Rattle.kinds.specs.Kinds.{kind}
 use Rattle.line_acts.specs.Acts.{tableAfter}
 use Rattle.line_by_line.specs.Tests.{howMany}
-use Rattle.line_by_line.specs.ComesBack.{rowsOf, filled}
+use Rattle.tables.specs.Layout.{padded}
+use Rattle.line_by_line.specs.ComesBack.{rowsOf}
 
 -- ---- one frame more, at the end
 
@@ -64,7 +65,7 @@ module _ (size : ℕ) (rows row : List ℕ) where
   left = size - length rows
 
   -- a row that is put after the rows takes the place of as many zeros
-  row-pasted : length rows + length row ≤ size → paste (filled size rows) (length rows) row (length row) ≡ filled size (rows ++ row)
+  row-pasted : length rows + length row ≤ size → paste (padded size rows) (length rows) row (length row) ≡ padded size (rows ++ row)
   row-pasted room =
       let zeros : List ℕ = replicate left 0 in
       let n : left - length row ≡ size - length (rows ++ row) = omega (arith, length-append rows row) in
@@ -75,10 +76,10 @@ module _ (size : ℕ) (rows row : List ℕ) where
       rw (take-at rows zeros (length rows) refl, take-length row, at)
 
   -- a table after a frame of kind k, where it is that of kind w and n rows were read
-  pub table-after : (k w n : ℕ) → length rows ≡ length row * n → (k ≡ w → length rows + length row ≤ size) → tableAfter k w n row (filled size rows) ≡ filled size (rows ++ cond (eqb k w) row [])
+  pub table-after : (k w n : ℕ) → length rows ≡ length row * n → (k ≡ w → length rows + length row ≤ size) → tableAfter k w n row (padded size rows) ≡ padded size (rows ++ cond (eqb k w) row [])
   unfolding tableAfter
   table-after k w n e room =
       ⊎-elim
-      (λ (a : eqb k w ≡ true). rw a (ap (λ (at : ℕ). paste (filled size rows) at row (length row)) (sym e) ∙ row-pasted (room (eqb-true k w a))))
-      (λ (a : eqb k w ≡ false). rw a (ap (filled size) (sym (append-nil rows))))
+      (λ (a : eqb k w ≡ true). rw a (ap (λ (at : ℕ). paste (padded size rows) at row (length row)) (sym e) ∙ row-pasted (room (eqb-true k w a))))
+      (λ (a : eqb k w ≡ false). rw a (ap (padded size) (sym (append-nil rows))))
       (test (eqb k w))

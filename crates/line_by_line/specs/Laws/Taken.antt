@@ -11,7 +11,7 @@ use lib.ListN.{length, length-append}
 use borrow.Author.Tests.{eqb-true, not-true, eq-eqb, ne-eqb}
 use Rattle.theory.specs.Laws.Tests.{and-left, and-right, or-cases, not-both}
 use Rattle.answers.specs.declared.Name.the-variants.{Frame, Check, Kind, TooMany, Field, Count}
-use Rattle.tables.specs.Layout.{PERIODIC-TABLE, TRIGGER-TABLE, byteAt}
+use Rattle.tables.specs.Layout.{PERIODIC-TABLE, TRIGGER-TABLE, padded, byteAt}
 use Rattle.frames.specs.Frame.{bytesOf}
 use Rattle.periodic_frames.specs.Row.{periodicRow}
 use Rattle.periodic_frames.specs.Laws.{length-periodic}
@@ -25,7 +25,7 @@ use Rattle.row_counts.specs.Laws.{room-periodics, room-triggers}
 use Rattle.line_tests.specs.declared.Seen.{Seen}
 use Rattle.line_acts.specs.Acts.{seenAfter, tableAfter, progress, after}
 use Rattle.line_by_line.specs.Tests.{howMany, known, inPlace, passes, order, allPass}
-use Rattle.line_by_line.specs.ComesBack.{rowsOf, filled, periodicTable, triggerTable}
+use Rattle.line_by_line.specs.ComesBack.{rowsOf, periodicTable, triggerTable}
 use Rattle.line_by_line.specs.Laws.Frames.{count-more, rows-more, rows-length, table-after}
 use Rattle.line_by_line.specs.Laws.Said.{said}
 
@@ -157,7 +157,7 @@ module _ (fs : List (List ℕ)) (f : List ℕ) (room : roomFor (kind f) (howMany
       table-after PERIODIC-TABLE rows (periodicRow f) (kind f) PERIODIC n
       (wide ∙ ap (λ (w : ℕ). w * n) (sym row))
       (λ (e : kind f ≡ PERIODIC). omega (arith, wide, row, room-periodics (kind f) n m room e))
-      ∙ ap (filled PERIODIC-TABLE) (sym (rows-more PERIODIC periodicRow fs f))
+      ∙ ap (padded PERIODIC-TABLE) (sym (rows-more PERIODIC periodicRow fs f))
 
   trigger-more : tableAfter (kind f) TRIGGER m (triggerRow f) (triggerTable fs) ≡ triggerTable (fs ++ f ∷ [])
   trigger-more =
@@ -167,7 +167,7 @@ module _ (fs : List (List ℕ)) (f : List ℕ) (room : roomFor (kind f) (howMany
       table-after TRIGGER-TABLE rows (triggerRow f) (kind f) TRIGGER m
       (wide ∙ ap (λ (w : ℕ). w * m) (sym row))
       (λ (e : kind f ≡ TRIGGER). omega (arith, wide, row, room-triggers (kind f) n m room e))
-      ∙ ap (filled TRIGGER-TABLE) (sym (rows-more TRIGGER triggerRow fs f))
+      ∙ ap (padded TRIGGER-TABLE) (sym (rows-more TRIGGER triggerRow fs f))
 
 -- ---- both
 
