@@ -1,4 +1,4 @@
-# Prints one input of the speed run: awk -v name=NAME [-v until=INSTANT] -f inputs.awk. Nothing in it is random.
+# Prints one input of the speed run, or of the gate's pipes: awk -v name=NAME [-v until=INSTANT] -f inputs.awk. Nothing in it is random.
 #
 # Days, of the instants 0 to 10,080 unless `until` says less:
 #   common    a dozen rows
@@ -14,6 +14,9 @@
 #   tape      a sheet without rows and the longest tape, whose last instant is too late: FIELD, at its last line
 #   short     the same without the tape: KIND
 #   empty     nothing: KIND
+# For the pipes:
+#   full      an input of exactly 65,536 bytes that passes: a short day
+#   over      the same and one byte more: LENGTH
 function put(value, bytes) { for (; bytes > 0; bytes--) b[++n] = int(value / 256 ^ (bytes - 1)) % 256 }
 function line(  i, sum) {
     for (i = 1; i <= n; i++) {
@@ -103,6 +106,14 @@ function requests(bytes,  i) {
     for (i = 0; 19 * (i + 1) <= bytes; i++) request(int(i / 32), (5 * i) % 128, i % 16, i % 61)
     return i
 }
+# 9 bytes, 29, 11, 3,446 requests, and 13.
+function full() {
+    header(64)
+    trigger("1 3 5 7", "0 2 4", 9, 5, 0)
+    end(0)
+    requests(65536 - 49 - 13)
+    last(120)
+}
 
 BEGIN {
     if (until == "") until = 10080
@@ -124,6 +135,9 @@ BEGIN {
             requests(65536 - 20 - 13)
             last(10081)
         }
+    } else if (name == "full" || name == "over") {
+        full()
+        if (name == "over") print ""
     } else if (name != "empty") {
         print "inputs.awk: no such input: " name | "cat 1>&2"
         exit 2

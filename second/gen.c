@@ -581,6 +581,27 @@ static void step_spoils_many(struct dice *dice, uint64_t seed, struct text *out)
     put_step_case(out, &made_step);
 }
 
+/* A good step with a list of requests of any length, right or with wrong ones. */
+static void step_lists(struct dice *dice, uint64_t seed, struct text *out)
+{
+    good_book(dice, &book);
+    step_case_of(dice, &made_step, &book);
+    list_requests(dice, &made_step, (uint32_t)(seed % request_lists()), (uint32_t)(seed / request_lists()));
+    spoil_step(dice, &made_step, 0);
+    put_step_case(out, &made_step);
+}
+
+/* A good step, the same for the seeds 2k - 1 and 2k but for the order of its requests. */
+static void step_order(struct dice *dice, uint64_t seed, struct text *out)
+{
+    *dice = dice_of((seed + 1) / 2, "step-order");
+    good_book(dice, &book);
+    step_case_of(dice, &made_step, &book);
+    spoil_step(dice, &made_step, 0);
+    order_requests(dice, &made_step, seed % 2 == 0);
+    put_step_case(out, &made_step);
+}
+
 static const struct kind kinds[] = {
     {"day-good", "day", "good sheets and tapes of every shape", day_good},
     {"day-small", "day", "one to three roles, much conflict", day_small},
@@ -616,7 +637,9 @@ static const struct kind kinds[] = {
     {"step-tangle", "step", "random triggers, with loops or without", step_tangle},
     {"step-edge", "step", "a field of the tables at the edge of its limit", step_edge},
     {"step-spoil", "step", "one thing spoiled, every refusal", step_spoil},
-    {"step-spoils", "step", "several things spoiled at once", step_spoils_many}
+    {"step-spoils", "step", "several things spoiled at once", step_spoils_many},
+    {"step-lists", "step", "0 to 1,024 requests, wrong ones in any place, repeats", step_lists},
+    {"step-order", "step", "the same requests in two orders, seeds 2k - 1 and 2k", step_order}
 };
 
 enum { KINDS = sizeof kinds / sizeof kinds[0] };

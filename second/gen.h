@@ -85,7 +85,13 @@ void odd_input(struct dice *dice, struct text *text, const struct book *book, ui
 
 /* gensteps.c: step cases */
 void step_case_of(struct dice *dice, struct step_case *to, const struct book *book);
+void wrong_request(struct dice *dice, struct request *request, uint32_t role_count, uint32_t which);
 void spoil_step(struct dice *dice, struct step_case *to, uint32_t which);
 uint32_t step_spoils(void);
+
+/* lists.c: the requests of step cases */
+uint32_t request_lists(void);
+void list_requests(struct dice *dice, struct step_case *to, uint32_t which, uint32_t way);
+void order_requests(struct dice *dice, struct step_case *to, int other);
 
 #endif

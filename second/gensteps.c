@@ -255,25 +255,28 @@ static void spoil_count(struct dice *dice, struct step_case *to, uint32_t which)
     }
 }
 
-/* Spoils a request, in any place, at or over a limit. */
+/* Makes a request wrong in one of its fields, at or over a limit. */
+void wrong_request(struct dice *dice, struct request *request, uint32_t role_count, uint32_t which)
+{
+    if (which == 0) {
+        request->event = (uint8_t)(2 * role_count);
+    } else if (which == 1) {
+        request->event = (uint8_t)between(dice, 128, 255);
+    } else if (which == 2) {
+        request->priority = (uint8_t)(chance(dice, 50) ? 16 : between(dice, 16, 255));
+    } else {
+        request->delay = (uint8_t)(chance(dice, 50) ? 61 : between(dice, 61, 255));
+    }
+}
+
+/* Spoils a request, in any place. */
 static void spoil_request(struct dice *dice, struct step_case *to, uint32_t which)
 {
-    uint32_t at;
-
     if (to->request_count == 0) {
         to->requests[0] = good_request(dice, 1);
         to->request_count = 1;
     }
-    at = below(dice, to->request_count);
-    if (which == 0) {
-        to->requests[at].event = (uint8_t)(2 * to->role_count);
-    } else if (which == 1) {
-        to->requests[at].event = (uint8_t)between(dice, 128, 255);
-    } else if (which == 2) {
-        to->requests[at].priority = (uint8_t)(chance(dice, 50) ? 16 : between(dice, 16, 255));
-    } else {
-        to->requests[at].delay = (uint8_t)(chance(dice, 50) ? 61 : between(dice, 61, 255));
-    }
+    wrong_request(dice, &to->requests[below(dice, to->request_count)], to->role_count, which);
 }
 
 /* Puts a loop of one or two triggers in place of used rows. */
