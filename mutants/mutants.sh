@@ -7,14 +7,6 @@ build_finder() {
     [ -x "$finder" ] && [ -z "$(find mutants -newer "$finder")" ] || compile "$finder" mutants/*.c
 }
 
-# copy_crates: the crates and what is proved of them, in a folder of their own.
-copy_crates() {
-    mkdir -p "$work/1/target" && cp -R crates crates.txt "$work/1/" || return 1
-    for kept in rlib stamp; do
-        [ ! -d "target/$kept" ] || cp -R "target/$kept" "$work/1/target/" || return 1
-    done
-}
-
 # draw_changes N SEED [CRATE]: the changes to try stand in `drawn`, crate by crate, each after how many of its crate are asked for. Programs
 # that only try things, try_NAME, are left out: no contract speaks of what they do.
 draw_changes() {

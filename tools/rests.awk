@@ -427,8 +427,6 @@ BEGIN {
     # proofs that stand among definitions, and why
     excuse["claims/Demands" SUBSEP "*"] = "the theorems that an auditor reads first"
     excuse["claims/Functions" SUBSEP "*"] = "the theorems of every public function"
-    excuse["examples/Table" SUBSEP "all-pass"] = "document 01 asks for one table with one proof"
-    excuse["examples/Table" SUBSEP "all-say"] = "the same proof, as what the examples say"
 }
 
 END {

@@ -51,7 +51,8 @@ use Rattle.day_lines.specs.Lines.{OUTPUT-BYTES}
 use Rattle.days.specs.declared.Printed.{Printed}
 use Rattle.days.specs.Day.{Prints, DayOutcome, written}
 use Rattle.examples.specs.Example.{Said}
-use Rattle.examples.specs.Table.{table, all-say}
+use Rattle.examples.specs.Table.{table}
+use Rattle.examples.specs.Laws.Said.{all-say}
 use Rattle.claims.specs.Words.{ReadsInOrder, Ordered, SolvesFor, countIn, noPeriodics, noTriggers, looped, workedSheet, worked, asked}
 use Rattle.claims.specs.Laws.Numbers
 use Rattle.claims.specs.Laws.Reader

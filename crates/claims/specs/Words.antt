@@ -2,10 +2,11 @@
 -- events, and the examples that shut wrong boxes out.
 -- Assumes nothing.
 use mathlib.Core.Path.{_≡_}
-use mathlib.Core.Bool.{true}
+use mathlib.Core.Bool.{true, cond}
 use mathlib.Core.List.{List, [], _∷_}
 use Prim.Native.Nat.{ℕ, _≤_}
-use lib.ListN.{length, replicate}
+use lib.Dec.{eqb}
+use lib.ListN.{length, getD, replicate}
 use Rattle.theory.specs.Numbers.{EVENTS, LAST-INSTANT, REQUESTS, WAITING-NUMBERS}
 use Rattle.theory.specs.Below.{countBelow}
 use Rattle.theory.specs.Events.{Events, nonblocked}
@@ -13,16 +14,18 @@ use Rattle.theory.specs.Sheet.{GoodOrder}
 use Rattle.theory.specs.Instant.{Solves}
 use Rattle.theory.specs.Box.{givens}
 use Rattle.text.specs.Lines.{lines}
-use Rattle.tables.specs.Layout.{PERIODIC-TABLE, TRIGGER-TABLE}
+use Rattle.tables.specs.Layout.{PERIODIC-TABLE, TRIGGER-TABLE, padded}
 use Rattle.tables.specs.Buffers.{rolesOf}
-use Rattle.tables.specs.Asked.{Asked, asks}
+use Rattle.tables.specs.Asked.{Request, Asked, asks}
 use Rattle.walks.specs.Walks.{goes}
 use Rattle.line_acts.specs.Acts.{Progress}
 use Rattle.lines.specs.Lines.{reads}
 use Rattle.sheet.specs.Sheet.{start, lengthsFit}
 use Rattle.row_judge.specs.Judge.{Rules, rules, sheetIn}
 use Rattle.step.specs.Outcome.{Lent, stateIn}
-use Rattle.examples.specs.Day.{text, sheetStrings, tapeStrings, askedAt, padded}
+use Rattle.split.specs.Split.{sheetPart}
+use Rattle.examples.specs.Written.{Requested}
+use Rattle.examples.specs.Day.{text}
 use Rattle.examples.specs.Table.{input, periodics, triggers}
 
 -- A SHEET IN GOOD ORDER, as bytes: LENGTH is not given, and every line passes its tests up to and with the end; s is what was read of them.
@@ -61,12 +64,18 @@ noTriggers = replicate TRIGGER-TABLE 0
 abbrev pub looped : List ℕ
 looped = text ("100101EE" ∷ "30010001000500C9" ∷ "F00000010F" ∷ [])
 
--- document 01's worked input: the bytes of its sheet, what the reader hands out of them, as it is lent to a step, and the requests of its tape
+-- document 01's worked input: the bytes of its sheet, and what the reader hands out of them, as it is lent to a step
 abbrev pub workedSheet : List ℕ
-workedSheet = text (sheetStrings (input .input))
+workedSheet = sheetPart (text (input .input))
 
 abbrev pub worked : Rules
 worked = rules 3 1 2 (padded PERIODIC-TABLE periodics) (padded TRIGGER-TABLE triggers)
 
+-- the requests of instant t among these, as they are lent to a step
+abbrev pub lentAt : ℕ → List Requested → List Request
+lentAt t [] = []
+lentAt t (q ∷ qs) = cond (eqb (q .instant) t) (record { event = q .what .event; priority = q .what .priority; delay = q .delay } ∷ lentAt t qs) (lentAt t qs)
+
+-- the requests of its tape, instant by instant
 abbrev pub asked : ℕ → Asked
-asked = askedAt (tapeStrings (input .input))
+asked t = record { count = length (lentAt t (input .requests)); request = λ k. getD (lentAt t (input .requests)) k (record { event = 0; priority = 0; delay = 0 }) }

@@ -25,17 +25,17 @@ pub data Example : Type 0 where
   due-at : (period first run t : ℕ) → Bool → Example
   -- of two conflicting events the first wins
   wins-over : (winner loser : Prioritized) → Example
-  -- a sheet with these rules is accepted
-  accepted : List Rule → (levels : List ℕ) → Example
-  -- a sheet with these rules is refused with LOOP at this place; from its second event the others lead back to its first
-  loops : List Rule → (place : ℕ) → (back : List ℕ) → Example
+  -- a sheet of at least so many roles with these rules is accepted
+  accepted : (roles : ℕ) → List Rule → (levels : List ℕ) → Example
+  -- a sheet of at least so many roles with these rules is refused with LOOP at this place; from its second event the others lead back to its first
+  loops : (roles : ℕ) → List Rule → (place : ℕ) → (back : List ℕ) → Example
   -- with these givens, this is the solution
   solved : List Rule → (givens solution : List Prioritized) → (levels : List ℕ) → Example
   -- the solution is the givens
   as-given : List Rule → Example
   -- a trigger with these events in its body fires in no solution
   never-fires : List ℕ → Example
-  -- a day's input, read and stepped
+  -- a day's input, opened, stepped and printed
   worked : Day → Example
 
 -- ---- what each kind says
@@ -76,8 +76,8 @@ abbrev pub Says : Example → Type 0
 Says (each n f) = (i : ℕ) → i < n → Says (f i)
 Says (due-at period first run t b) = (event priority : ℕ) → rowDue (rowOf period first run event priority) t ≡ b
 Says (wins-over w l) = Wins w l
-Says (accepted rules levels) = (rest : Rest) → Fits rest → Accepted (sheetWith rest rules)
-Says (loops rules place back) = (rest : Rest) → Fits rest → Refused (sheetWith rest rules) place
+Says (accepted roles rules levels) = (rest : Rest) → Fits roles rest → Accepted (sheetWith rest rules)
+Says (loops roles rules place back) = (rest : Rest) → Fits roles rest → Refused (sheetWith rest rules) place
 Says (solved rules givens solution levels) = (rest : Rest) → OnlySolution (sheetWith rest rules) (among givens) (among solution)
 Says (as-given rules) = (rest : Rest) (G : Events) → OnlySolution (sheetWith rest rules) G G
 Says (never-fires events) = (sh : Sheet) (i : ℕ) → i < sh .triggerCount → InBody events (sh .trigger i)

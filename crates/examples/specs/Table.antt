@@ -1,38 +1,13 @@
--- THE TABLE: document 01's bench examples that are marked P, and the one proof over it.
+-- THE TABLE: document 01's bench examples that are marked P. `Laws.Said` has the one proof over it.
 -- Assumes nothing.
-use mathlib.Core.Path.{_≡_, refl}
 use mathlib.Core.Bool.{true, false}
 use mathlib.Core.List.{List, [], _∷_}
 use Prim.Native.Nat.{ℕ}
 use Rattle.theory.specs.Numbers.{PRIORITIES}
-use Rattle.theory.specs.Below.{anyBelow, allBelow}
-use Rattle.theory.specs.Events.{disable, enable, conf, holds, blocks, blocked, nonblocked}
-use Rattle.theory.specs.Sheet.{endFits, periodicFits, triggerFits, untilEnd, rowDue, due}
-use Rattle.theory.specs.Instant.{allows, met, ready, waitsFor, rolesAfter}
-use Rattle.theory.specs.Graph.{counts, node, drawn, edge}
-use Rattle.theory.specs.Box.{givens, rowAfter}
-use Rattle.theory.specs.Laws.Exists.{fire, round}
-use Rattle.line_order.specs.Order.{inOrder}
-use Rattle.tables.specs.Layout.{periodicAt, triggerFrom, sheetOf}
-use Rattle.tables.specs.Asked.{asks, requestAt}
-use Rattle.text.specs.Framed.{isDigit, framed}
-use Rattle.frames.specs.Frame.{value, checked}
-use Rattle.periodic_frames.specs.Row.{periodicRow}
-use Rattle.trigger_frames.specs.Row.{placed, eventPlace, conditionPlace, lastPlace, triggerRow}
-use Rattle.kinds.specs.Kinds.{sizeOf, mayStand}
-use Rattle.row_counts.specs.Counts.{roomFor, countsAgree}
-use Rattle.fields.specs.Fields.{headerFits, frameFits}
-use Rattle.line_tests.specs.Judge.{lineTests, judgeLine}
-use Rattle.line_acts.specs.Acts.{seenAfter, tableAfter, after}
-use Rattle.lines.specs.Line.{lineStep}
-use Rattle.walks.specs.Walks.{byVerdict, walks}
-use Rattle.lines.specs.Lines.{atEnd}
-use Rattle.sheet.specs.Sheet.{lengthsFit}
-use Rattle.examples.specs.Written.{_∶_, first, Rule, _gives_after_, _waits-for_, rolesIn, rowsIn}
+use Rattle.theory.specs.Events.{disable, enable}
+use Rattle.examples.specs.Written.{_∶_, Rule, _gives_after_, _asked-at_after_, _waits-for_}
 use Rattle.examples.specs.Day.{Day}
-use Rattle.examples.specs.Example.{Example, each, due-at, wins-over, accepted, loops, solved, as-given, never-fires, worked, Said}
-use Rattle.examples.specs.Passes.{goodOrder, leveled, loopsAt, selfCaused, givensHeld, rolesFound, waitsFound, readFound, tapeFound, passing}
-use Rattle.examples.specs.Laws.Sound.{all-sound}
+use Rattle.examples.specs.Example.{Example, each, due-at, wins-over, accepted, loops, solved, as-given, never-fires, worked}
 
 -- ---- rules of the examples, of any priorities p and q
 
@@ -68,7 +43,7 @@ triggers =
     1 ∷ 0 ∷ 1 ∷ 0 ∷ 0 ∷ 0 ∷ 0 ∷ 0 ∷ 0 ∷ 0 ∷ 4 ∷ 6 ∷ 0
     ∷ 1 ∷ 1 ∷ 4 ∷ 0 ∷ 0 ∷ 0 ∷ 2 ∷ 0 ∷ 0 ∷ 0 ∷ 3 ∷ 5 ∷ 2 ∷ []
 
--- its lines as printed, what is read of them, and its instants 0 and 1
+-- its lines as printed, what is read of them, its instants, and the lines that it prints
 abbrev pub input : Day
 input =
     record {
@@ -85,6 +60,8 @@ input =
       periodics = periodics;
       triggers = triggers;
       levels = [];
+      requests = (6 ∶ enable 2 asked-at 1 after 0) ∷ [];
+      last = 4;
       minutes =
           record { events = []; roles = []; waits = [] }
           ∷ record {
@@ -96,6 +73,16 @@ input =
             roles = 0 ∷ [];
             waits = (5 ∶ enable 1 waits-for 3) ∷ [];
           }
+          ∷ record { events = []; roles = 0 ∷ []; waits = (5 ∶ enable 1 waits-for 3) ∷ [] }
+          ∷ record { events = (5 ∶ enable 1) ∷ []; roles = 0 ∷ 1 ∷ []; waits = [] }
+          ∷ record { events = []; roles = 0 ∷ 1 ∷ []; waits = [] }
+          ∷ [];
+      output =
+          "5000000000000000000000000000B0"
+          ∷ "5000000001000000000000000102AC"
+          ∷ "5000000002000000000000000100AD"
+          ∷ "5000000003000000000000000301A9"
+          ∷ "5000000004000000000000000300A9"
           ∷ [];
     }
 
@@ -114,31 +101,18 @@ table =
     ∷ wins-over (6 ∶ disable 2) (6 ∶ enable 2)
     ∷ wins-over (7 ∶ enable 2) (6 ∶ disable 2)
     -- 3. "enable 0 gives disable 0", delay 0: LOOP, place 0. With delay 1: accepted.
-    ∷ all (λ p. loops (own p 0) 0 [])
-    ∷ all (λ p. accepted (own p 1) [])
+    ∷ all (λ p. loops 1 (own p 0) 0 [])
+    ∷ all (λ p. accepted 1 (own p 1) [])
     -- 4. "enable 0 gives disable 1" and "enable 1 gives disable 0": LOOP, place 2.
-    ∷ all₂ (λ p q. loops (crossed p q) 2 (disable 0 ∷ []))
+    ∷ all₂ (λ p q. loops 2 (crossed p q) 2 (disable 0 ∷ []))
     -- 5. "enable 0 gives enable 1" and back, no givens: accepted, empty solution.
-    ∷ all₂ (λ p q. accepted (ring p q) [])
+    ∷ all₂ (λ p q. accepted 2 (ring p q) [])
     ∷ all₂ (λ p q. solved (ring p q) [] [] [])
     -- 6. Empty trigger table: accepted; the solution is the givens.
-    ∷ accepted [] []
+    ∷ accepted 1 [] []
     ∷ as-given []
     -- 7. Body with enable 0 and disable 0: fires in no solution.
     ∷ never-fires (enable 0 ∷ disable 0 ∷ [])
-    -- 8. The input above at instant 1: 4:enable 0, 6:enable 2, 6:disable 2; 5:enable 1 waits for 3.
+    -- 8. The input above at instant 1: 4:enable 0, 6:enable 2, 6:disable 2; 5:enable 1 waits for 3. All of its instants, and the output above.
     ∷ worked input
     ∷ []
-
--- the test computes
-all-pass : passing table ≡ true
-unfolding anyBelow allBelow conf holds blocks blocked nonblocked endFits periodicFits triggerFits untilEnd rowDue due allows met ready waitsFor rolesAfter
-    counts node drawn edge givens rowAfter fire round periodicAt triggerFrom sheetOf asks requestAt isDigit value framed checked
-    sizeOf mayStand periodicRow placed eventPlace conditionPlace lastPlace triggerRow headerFits frameFits roomFor countsAgree inOrder lineTests judgeLine
-    seenAfter tableAfter after byVerdict lineStep atEnd walks lengthsFit
-    first rolesIn rowsIn goodOrder leveled loopsAt selfCaused givensHeld rolesFound waitsFound readFound tapeFound
-all-pass = refl
-
--- THE PROOF: every example of the table says what is true
-pub all-say : Said table
-all-say = all-sound table all-pass

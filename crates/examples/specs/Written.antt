@@ -1,13 +1,14 @@
--- How an example is written down: prioritized events, rules in document 01's words, the sheets that have them, and states.
+-- How an example is written down: prioritized events, rules in document 01's words, the sheets that have them, requests, and states.
 -- Assumes nothing.
-use mathlib.Core.Bool.{_&&_}
-use mathlib.Core.List.{List, []}
+use mathlib.Core.Bool.{false, _&&_, _||_}
+use mathlib.Core.List.{List, [], _∷_}
 use Prim.Native.Nat.{ℕ, _≤_}
 use lib.Dec.{eqb}
 use lib.ListN.{length, getD}
 use Rattle.theory.specs.Below.{anyBelow}
 use Rattle.theory.specs.Events.{Events, Roles}
 use Rattle.theory.specs.Sheet.{Periodic, Trigger, Sheet, GoodOrder, is}
+use Rattle.theory.specs.Model.{Stream}
 use Rattle.theory.specs.Box.{State, row}
 
 -- ---- prioritized events
@@ -81,10 +82,28 @@ sheetWith rest rules =
       trigger = λ i. triggerOf (ruleAt rules i);
     }
 
--- The rest is in good order, and there are the roles 0 and 1.
-pub record Fits (rest : Rest) : Type 0 where
+-- The rest is in good order, and there are at least so many roles.
+pub record Fits (roles : ℕ) (rest : Rest) : Type 0 where
   pub good : GoodOrder (sheetWith rest [])
-  pub roles : 2 ≤ rest .roleCount
+  pub enough : roles ≤ rest .roleCount
+
+-- ---- requests
+
+-- A prioritized event that is asked for at an instant, with a delay.
+pub record Requested : Type 0 where
+  pub what : Prioritized
+  pub instant : ℕ
+  pub delay : ℕ
+
+-- m is asked for at instant t, after the delay
+infix 35 _asked-at_after_
+abbrev pub _asked-at_after_ : Prioritized → ℕ → ℕ → Requested
+m asked-at t after delay = record { what = m; instant = t; delay = delay }
+
+-- these requests and no others
+unfoldable pub streamOf : List Requested → Stream
+streamOf [] t d e p = false
+streamOf (q ∷ qs) t d e p = (eqb (q .instant) t && (eqb (q .delay) d && is (q .what .event) (q .what .priority) e p)) || streamOf qs t d e p
 
 -- ---- states
 

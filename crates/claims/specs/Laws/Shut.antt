@@ -9,26 +9,26 @@ use lib.ListN.{length, replicate, length-replicate, getD-replicate}
 use Rattle.theory.specs.Numbers.{EVENTS, LAST-INSTANT, REQUESTS, WAITING-NUMBERS}
 use Rattle.theory.specs.Below.{anyBelow, allBelow, countBelow}
 use Rattle.theory.specs.Events.{Events, Roles, enable, disable, conf, blocks, blocked, nonblocked}
-use Rattle.theory.specs.Instant.{requestFits}
-use Rattle.theory.specs.Box.{State, SameState}
+use Rattle.theory.specs.Instant.{Requests, requestFits}
+use Rattle.theory.specs.Box.{State, Step, SameState}
 use Rattle.theory.specs.Laws.Below.{all-elim}
 use Rattle.answers.specs.declared.Verdict.{Verdict}
 use Rattle.answers.specs.declared.Verdict.the-variants.{Pass}
 use Rattle.tables.specs.Buffers.{rolesOf, eventsOf, waitingOf, Narrow}
-use Rattle.tables.specs.Asked.{requestAt}
+use Rattle.tables.specs.Asked.{asks}
 use Rattle.masks.specs.Laws.Bits.{bit-none}
 use Rattle.masks.specs.Laws.Held.{roles-one, waiting-none, waiting-one}
-use Rattle.frames.specs.Frame.{value}
 use Rattle.requests.specs.Requests.{fits, AllFit}
 use Rattle.accepted.specs.Laws.Accepted.{reading-good, reading-sizes}
-use Rattle.row_judge.specs.Judge.{Rules}
+use Rattle.row_judge.specs.Judge.{Rules, sheetIn}
 use Rattle.step.specs.Outcome.{Lent, lent, stateIn, judgeStep, Outcome}
 use Rattle.step.specs.Laws.Used.{rules-itself}
 use Rattle.runs.specs.Runs.{FreshLent, HandedOn, Steps}
 use Rattle.runs.specs.Laws.{under-sheet}
-use Rattle.examples.specs.Written.{_∶_, Prioritized, among, first, rolesIn, rowsIn, stateOf}
+use Rattle.examples.specs.Written.{_∶_, Prioritized, among, first, streamOf, rolesIn, rowsIn, stateOf}
 use Rattle.examples.specs.Day.{Worked}
-use Rattle.examples.specs.Table.{input, all-say}
+use Rattle.examples.specs.Table.{input}
+use Rattle.examples.specs.Laws.Said.{all-say}
 use Rattle.claims.specs.Words.{countIn, noPeriodics, noTriggers, workedSheet, worked, asked}
 use Rattle.claims.specs.Laws.Step.{step-passes-says}
 use Rattle.claims.specs.Laws.There.{step-total}
@@ -38,6 +38,18 @@ use Rattle.claims.specs.Laws.There.{step-total}
 -- example 8 of the table
 pub is-worked : Worked input
 is-worked = all-say .1 .1 .1 .1 .1 .1 .1 .1 .1 .1 .1 .1 .1 .1 .1 .1 .0
+
+-- what holds of 0 and of 1 holds of every number below 2
+two : (P : ℕ → Type 0) → P 0 → P 1 → (t : ℕ) → t < 2 → P t
+two P a b zero l = a
+two P a b (suc zero) l = b
+two P a b (suc (suc t)) l = absurd (omega (arith, l))
+
+-- the requests that are lent to its first two steps are those of its tape
+lent-asks : (t : ℕ) → t < 2 → asks (asked t) ≡ streamOf (input .requests) t
+unfolding asks streamOf anyBelow
+lent-asks =
+    two (λ t. asks (asked t) ≡ streamOf (input .requests) t) (fun-ext (λ d. fun-ext (λ e. fun-ext (λ p. refl)))) (fun-ext (λ d. fun-ext (λ e. fun-ext (λ p. refl))))
 
 -- ---- its first two minutes, in any run of accepted steps
 
@@ -71,8 +83,12 @@ record FirstTwo (before after : ℕ → Lent) : Type 0 where
   roles-before : rolesOf (before 1 .roles) ≡ rolesIn []
   roles-after : rolesOf (after 1 .roles) ≡ rolesIn (0 ∷ [])
 
+-- an accepted step of instant t is a step with the tape's requests
+stepped : (t : ℕ) → t < 2 → (l a : Lent) → Outcome worked (asked t) l Pass a → Step (sheetIn worked) (streamOf (input .requests) t) (stateIn l) (eventsOf (a .events)) (stateIn a)
+stepped t b l a o = subst (λ (q : Requests). Step (sheetIn worked) q (stateIn l) (eventsOf (a .events)) (stateIn a)) (lent-asks t b) (o .passed refl .step)
+
 minute-0 : (l a : Lent) → SameState (stateIn l) (stateOf 0 [] []) → Outcome worked (asked 0) l Pass a → (eventsOf (a .events) ≡ among []) × SameState (stateIn a) (stateOf 1 [] [])
-minute-0 l a s o = is-worked .minutes .0 .same (stateIn l) s (eventsOf (a .events)) (stateIn a) (o .passed refl .step)
+minute-0 l a s o = is-worked .minutes 0 (omega arith) .same (stateIn l) s (eventsOf (a .events)) (stateIn a) (stepped 0 (omega arith) l a o)
 
 first-two : (tables : ℕ → Rules) (before after : ℕ → Lent) → Steps 2 worked tables asked before after → FirstTwo before after
 first-two tables before after steps =
@@ -80,7 +96,7 @@ first-two tables before after steps =
     let f : FreshLent (before 0) = steps .fresh in
     let x = minute-0 (before 0) (after 0) (zeros (before 0) 0 (f .instant) (f .roles) (f .waiting)) (ok 0 (omega arith)) in
     let s : SameState (stateIn (before 1)) (stateOf 1 [] []) = handed (after 0) (before 1) (stateOf 1 [] []) (steps .on 0 (omega arith)) (x .1) in
-    let y = is-worked .minutes .1 .0 .same (stateIn (before 1)) s (eventsOf (after 1 .events)) (stateIn (after 1)) (ok 1 (omega arith) .passed refl .step) in
+    let y = is-worked .minutes 1 (omega arith) .same (stateIn (before 1)) s (eventsOf (after 1 .events)) (stateIn (after 1)) (stepped 1 (omega arith) (before 1) (after 1) (ok 1 (omega arith))) in
     record { no-events = x .0; three-events = y .0; roles-before = s .roles; roles-after = y .1 .roles }
 
 -- they differ in their events
@@ -109,19 +125,12 @@ counts-are tables before after steps =
 
 -- ---- such a run is there
 
--- what holds of 0 and of 1 holds of every number below 2
-two : (P : ℕ → Type 0) → P 0 → P 1 → (t : ℕ) → t < 2 → P t
-two P a b zero l = a
-two P a b (suc zero) l = b
-two P a b (suc (suc t)) l = absurd (omega (arith, l))
-
 -- no request at instant 0 and one at 1, which is within its limits
 few : (t : ℕ) → t < 2 → asked t .count ≤ REQUESTS
-unfolding value
 few = let e : asked 0 .count ≡ 0 = refl in let f : asked 1 .count ≡ 1 = refl in two (λ t. asked t .count ≤ REQUESTS) (omega arith) (omega arith)
 
 all-fit : (t : ℕ) → t < 2 → AllFit 3 (asked t)
-unfolding allBelow requestAt requestFits value
+unfolding allBelow requestFits
 all-fit = two (λ t. AllFit 3 (asked t)) (all-elim (asked 0 .count) (λ i. fits 3 (asked 0 .request i)) refl) (all-elim (asked 1 .count) (λ i. fits 3 (asked 1 .request i)) refl)
 
 -- every step in it is accepted

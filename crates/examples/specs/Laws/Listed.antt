@@ -1,22 +1,23 @@
 -- Laws of sets that are written as lists: what holds of each that is listed holds of each member.
 -- Assumes nothing.
-use mathlib.Core.Path.{_≡_, refl, sym, subst}
+use mathlib.Core.Path.{_≡_, refl, sym, subst, subst₂}
+use mathlib.Core.Logic.{⊎-elim}
 use mathlib.Core.Bool.{Bool, true, false, _&&_, false≢true, Bool·beq}
-use mathlib.Core.List.{List}
+use mathlib.Core.List.{List, [], _∷_}
 use Prim.Native.Nat.{ℕ, _<_}
 use lib.Dec.{eqb}
 use lib.ListN.{length, getD}
 use borrow.Author.Tests.{eqb-true}
-use Rattle.theory.specs.Below.{anyBelow, allBelow}
+use Rattle.theory.specs.Below.{allBelow}
 use Rattle.theory.specs.Events.{Events, Part}
 use Rattle.theory.specs.Sheet.{is}
 use Rattle.theory.specs.Box.{row}
-use Rattle.theory.specs.Laws.Tests.{and-left, and-right}
+use Rattle.theory.specs.Model.{Stream}
+use Rattle.theory.specs.Laws.Tests.{and-left, and-right, or-cases}
 use Rattle.theory.specs.Laws.Below.{any-elim, all-elim}
 use Rattle.theory.specs.Laws.Exists.{is-only}
-use Rattle.tables.specs.Asked.{Asked, asks}
-use Rattle.examples.specs.Written.{Prioritized, at, first, among, Waits, waitAt, rolesIn, rowsIn}
-use Rattle.examples.specs.Passes.{_⇒_, eachOf, eachWaiting, eachAsked}
+use Rattle.examples.specs.Written.{Prioritized, at, first, among, Requested, streamOf, Waits, waitAt, rolesIn, rowsIn}
+use Rattle.examples.specs.Laws.Passes.{_⇒_, eachOf, eachWaiting, eachAsked}
 
 pub passes-then : (a b : Bool) → (a ⇒ b) ≡ true → a ≡ true → b ≡ true
 passes-then true b h t = h
@@ -43,19 +44,28 @@ roles-part rs f h r m =
     let x = any-elim (length rs) (λ i. eqb (getD rs i 0) r) m in
     subst (λ (n : ℕ). f n ≡ true) (eqb-true _ _ (x .2)) (all-elim (length rs) (λ i. f (getD rs i 0)) h (x .0) (x .1))
 
--- rows a i, b i with a key each: what holds of each row under its key holds of each p:e under each key
-keyed-part : (n : ℕ) (key a b : ℕ → ℕ) (X : ℕ → Events) → allBelow n (λ i. X (key i) (a i) (b i)) ≡ true
-    → (k e p : ℕ) → anyBelow n (λ i. eqb (key i) k && is (a i) (b i) e p) ≡ true → X k e p ≡ true
-keyed-part n key a b X h k e p m =
-    let x = any-elim n (λ i. eqb (key i) k && is (a i) (b i) e p) m in
-    let i : ℕ = x .0 in
-    is-only (X k) (a i) (b i) e p (and-right (eqb (key i) k) (is (a i) (b i) e p) (x .2))
-    (subst (λ (z : ℕ). X z (a i) (b i) ≡ true) (eqb-true _ _ (and-left (eqb (key i) k) (is (a i) (b i) e p) (x .2))) (all-elim n (λ i. X (key i) (a i) (b i)) h i (x .1)))
-
 pub rows-part : (ws : List Waits) (X : ℕ → Events) → eachWaiting ws X ≡ true → (k e p : ℕ) → rowsIn ws k e p ≡ true → X k e p ≡ true
 unfolding rowsIn
-rows-part ws X = keyed-part (length ws) (λ i. row (waitAt ws i .instant)) (λ i. waitAt ws i .what .event) (λ i. waitAt ws i .what .priority) X
+rows-part ws X h k e p m =
+    let key : ℕ → ℕ = λ i. row (waitAt ws i .instant) in
+    let a : ℕ → ℕ = λ i. waitAt ws i .what .event in
+    let b : ℕ → ℕ = λ i. waitAt ws i .what .priority in
+    let x = any-elim (length ws) (λ i. eqb (key i) k && is (a i) (b i) e p) m in
+    let i : ℕ = x .0 in
+    is-only (X k) (a i) (b i) e p (and-right (eqb (key i) k) (is (a i) (b i) e p) (x .2))
+    (subst (λ (z : ℕ). X z (a i) (b i) ≡ true) (eqb-true _ _ (and-left (eqb (key i) k) (is (a i) (b i) e p) (x .2))) (all-elim (length ws) (λ i. X (key i) (a i) (b i)) h i (x .1)))
 
-pub asked-part : (q : Asked) (X : ℕ → Events) → eachAsked q X ≡ true → (d e p : ℕ) → asks q d e p ≡ true → X d e p ≡ true
-unfolding asks
-asked-part q X = keyed-part (q .count) (λ k. q .request k .delay) (λ k. q .request k .event) (λ k. q .request k .priority) X
+pub asked-part : (qs : List Requested) (X : Stream) → eachAsked qs X ≡ true → (t d e p : ℕ) → streamOf qs t d e p ≡ true → X t d e p ≡ true
+unfolding streamOf
+asked-part [] X h t d e p m = absurd (false≢true m)
+asked-part (q ∷ qs) X h t d e p m =
+    let a : ℕ = q .what .event in
+    let b : ℕ = q .what .priority in
+    let here : Bool = eqb (q .instant) t && (eqb (q .delay) d && is a b e p) in
+    ⊎-elim
+    (λ (o : here ≡ true).
+    let r = and-right (eqb (q .instant) t) (eqb (q .delay) d && is a b e p) o in
+    is-only (X t d) a b e p (and-right (eqb (q .delay) d) (is a b e p) r)
+    (subst₂ (λ (u x : ℕ). X u x a b ≡ true) (eqb-true _ _ (and-left (eqb (q .instant) t) _ o)) (eqb-true _ _ (and-left (eqb (q .delay) d) _ r)) (and-left (X (q .instant) (q .delay) a b) (eachAsked qs X) h)))
+    (λ (o : streamOf qs t d e p ≡ true). asked-part qs X (and-right (X (q .instant) (q .delay) a b) (eachAsked qs X) h) t d e p o)
+    (or-cases here (streamOf qs t d e p) m)

@@ -16,7 +16,7 @@ use Rattle.theory.specs.LoopTest.{PAIRS}
 use Rattle.theory.specs.Laws.Tests.{and-left, and-right}
 use Rattle.theory.specs.Laws.Below.{all-elim}
 use Rattle.theory.specs.Laws.Graph.{drawn-elim}
-use Rattle.examples.specs.Passes.{_⇒_, goodOrder, leveled, leads, loopsAt}
+use Rattle.examples.specs.Laws.Passes.{_⇒_, goodOrder, leveled, leads, loopsAt}
 use Rattle.examples.specs.Laws.Listed.{passes-then}
 
 module _ (sh : Sheet) where

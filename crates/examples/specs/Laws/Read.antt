@@ -1,4 +1,4 @@
--- A day's input: where its lines are read to what is expected and the sheet has no loop, that is what the reading gives.
+-- The sheet of a day's input: where its lines are read to what is expected and it has no loop, that is what the reading gives.
 -- Assumes nothing.
 use mathlib.Core.Path.{_≡_, refl, _∙_}
 use mathlib.Core.Bool.{Bool, true, _&&_, false≢true}
@@ -13,7 +13,7 @@ use Rattle.theory.specs.LoopTest.{PAIRS, loopPlace}
 use Rattle.theory.specs.Laws.Tests.{and-left, and-right}
 use Rattle.theory.specs.Laws.OneSolution.{good-heads}
 use Rattle.theory.specs.Laws.Loop.{noloop-says}
-use Rattle.tables.specs.Layout.{PERIODIC-TABLE, TRIGGER-TABLE, sheetOf}
+use Rattle.tables.specs.Layout.{PERIODIC-TABLE, TRIGGER-TABLE, sheetOf, padded}
 use Rattle.text.specs.Lines.{lines}
 use Rattle.readings.specs.declared.Read.{Read}
 use Rattle.readings.specs.declared.Reading.the-variants.{Good}
@@ -22,10 +22,12 @@ use Rattle.walks.specs.Walks.{Going, goes, refused}
 use Rattle.lines.specs.Lines.{reads}
 use Rattle.hand_out.specs.Out.{readOutcome, sheetRead, handed, byLoop}
 use Rattle.sheet.specs.Sheet.{start, byLines, lengthsFit, reading}
-use Rattle.examples.specs.Day.{text, sheetStrings, Day, padded, sheetOfDay}
-use Rattle.examples.specs.Passes.{same, readTo, readFound}
+use Rattle.split.specs.Split.{sheetPart}
+use Rattle.openings.specs.Opening.{sheetReading}
+use Rattle.examples.specs.Day.{text, Day, sheetOfDay}
+use Rattle.examples.specs.Laws.Passes.{same, readTo, readFound}
 
-same-is : (k l : List ℕ) → same k l ≡ true → k ≡ l
+pub same-is : (k l : List ℕ) → same k l ≡ true → k ≡ l
 same-is [] [] h = refl
 same-is [] (b ∷ l) h = absurd (false≢true h)
 same-is (a ∷ k) [] h = absurd (false≢true h)
@@ -68,12 +70,12 @@ loopless s p t r p′ t′ k h x y =
 
 -- THE LAW
 pub reads-to : (d : Day) → GoodOrder (sheetOfDay d) → NoLoop (sheetOfDay d) → readFound d ≡ true
-    → reading (text (sheetStrings (d .input))) (padded PERIODIC-TABLE []) (padded TRIGGER-TABLE [])
-    ≡ readOutcome (Good (d .read)) (padded PERIODIC-TABLE (d .periodics)) (padded TRIGGER-TABLE (d .triggers))
+    → sheetReading (text (d .input)) ≡ readOutcome (Good (d .read)) (padded PERIODIC-TABLE (d .periodics)) (padded TRIGGER-TABLE (d .triggers))
 unfolding readFound reading byLines
 reads-to d good nl h =
-    let fit : Bool = lengthsFit (length (text (sheetStrings (d .input)))) (length (padded PERIODIC-TABLE [])) (length (padded TRIGGER-TABLE [])) in
-    let r = read-to (reads (goes start) (lines (text (sheetStrings (d .input))))) (d .read) (padded PERIODIC-TABLE (d .periodics)) (padded TRIGGER-TABLE (d .triggers)) (and-right fit _ h) in
+    let sheet : List ℕ = sheetPart (text (d .input)) in
+    let fit : Bool = lengthsFit (length sheet) (length (padded PERIODIC-TABLE [])) (length (padded TRIGGER-TABLE [])) in
+    let r = read-to (reads (goes start) (lines sheet)) (d .read) (padded PERIODIC-TABLE (d .periodics)) (padded TRIGGER-TABLE (d .triggers)) (and-right fit _ h) in
     rw (and-left fit _ h, r .goes-on)
     (loopless (r .found) (padded PERIODIC-TABLE []) (padded TRIGGER-TABLE []) (d .read) (padded PERIODIC-TABLE (d .periodics)) (padded TRIGGER-TABLE (d .triggers))
     (noloop-says (sheetOfDay d) (good-heads (sheetOfDay d) good) .1 nl) (r .hands) (r .periodics) (r .triggers))

@@ -15,7 +15,7 @@ use Rattle.theory.specs.Laws.Tests.{and-left, and-right, and-both, bool-ext, no
 use Rattle.theory.specs.Laws.Below.{below-cases, all-elim}
 use Rattle.theory.specs.Laws.Exists.{round, round-closed}
 use Rattle.examples.specs.Written.{Prioritized, at, first, among}
-use Rattle.examples.specs.Passes.{_⇒_, selfCaused}
+use Rattle.examples.specs.Laws.Passes.{_⇒_, selfCaused}
 use Rattle.examples.specs.Laws.Listed.{passes-then, first-part}
 
 module _ (sh : Sheet) (on : ℕ → Bool) (G S : Events) where

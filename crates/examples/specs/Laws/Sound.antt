@@ -3,7 +3,7 @@
 use mathlib.Core.Path.{_≡_, refl}
 use mathlib.Core.Bool.{Bool, true, false, not, _&&_, _||_, Bool·beq}
 use mathlib.Core.List.{List, [], _∷_}
-use Prim.Native.Nat.{ℕ, _/_, _≤_, _<_}
+use Prim.Native.Nat.{ℕ, suc, _/_, _≤_, _<_}
 use native.Mathlib.Omega.{arith}
 use lib.Dec.{eqb}
 use lib.ListN.{length, getD}
@@ -14,6 +14,7 @@ use Rattle.theory.specs.Sheet.{Trigger, Sheet, GoodOrder, triggerFits, rowDue}
 use Rattle.theory.specs.Instant.{immediate, allows, met, ready, Solves, rolesAfter}
 use Rattle.theory.specs.Graph.{counts, node, drawn, edge, NoLoop, Levels, LoopAt}
 use Rattle.theory.specs.Model.{noRoles}
+use Rattle.theory.specs.Box.{Fresh}
 use Rattle.theory.specs.Laws.Tests.{and-left, and-right, is-false}
 use Rattle.theory.specs.Laws.Below.{any-elim, all-elim}
 use Rattle.theory.specs.Laws.Limits.{TriggerWithin, trigger-says}
@@ -21,18 +22,17 @@ use Rattle.theory.specs.Laws.Exists.{fire, round}
 use Rattle.theory.specs.Laws.Levels.{levels-noloop}
 use Rattle.theory.specs.Laws.OneSolution.{levels-unique}
 use Rattle.theory.specs.Laws.Sentences.{never-both}
-use Rattle.text.specs.Framed.{framed}
-use Rattle.frames.specs.Frame.{bytesOf, checked}
 use Rattle.judge.specs.Laws.{judge-refuses-not, judge-finds}
 use Rattle.examples.specs.Written.{Prioritized, at, among, Rule, triggerOf, ruleAt, Rest, sheetWith, Fits, rolesIn, rowsIn}
-use Rattle.examples.specs.Day.{tapeStrings, askedAt, Day, sheetOfDay, tapeLine, Worked}
+use Rattle.examples.specs.Day.{Minute, Day, sheetOfDay, minuteAt, rolesBefore, waitsBefore, stateBefore, Found, Worked}
 use Rattle.examples.specs.Example.{Example, each, due-at, wins-over, accepted, loops, solved, as-given, never-fires, worked, rowOf, Wins, Accepted, Refused, OnlySolution, InBody, Says, Said}
-use Rattle.examples.specs.Passes.{eachOf, goodOrder, rulesAlone, leveled, listed, loopsAt, selfCaused, opposed, readFound, tapeFound, passes, passing}
+use Rattle.examples.specs.Laws.Passes.{eachOf, goodOrder, rulesAlone, leveled, listed, loopsAt, selfCaused, opposed, openFound, minuteFound, minutesFound, linesFound, passes, passing}
 use Rattle.examples.specs.Laws.Listed.{beq-true, among-part}
 use Rattle.examples.specs.Laws.Solved.{caused-least, late-solves, late-only}
 use Rattle.examples.specs.Laws.Looped.{good-order, leveled-levels, loops-at}
-use Rattle.examples.specs.Laws.Stepped.{minutes-found}
-use Rattle.examples.specs.Laws.Read.{reads-to}
+use Rattle.examples.specs.Laws.Stepped.{minute-found}
+use Rattle.examples.specs.Laws.Opens.{opens-read, opens-to, opens-within}
+use Rattle.examples.specs.Laws.Printed.{prints-found}
 
 -- whether a row is due is no matter of its event
 due-is : (period first run t : ℕ) (b : Bool) → Bool·beq (rowDue (rowOf period first run 0 0) t) b ≡ true → (event priority : ℕ) → rowDue (rowOf period first run event priority) t ≡ b
@@ -72,80 +72,83 @@ wins-is w l h =
 
 -- ---- rules in any sheet
 
--- what fits two roles fits more
-fits-more : (n : ℕ) (g : Trigger) → 2 ≤ n → triggerFits 2 g ≡ true → triggerFits n g ≡ true
-fits-more n g l h =
-    let w : TriggerWithin 2 g = trigger-says 2 g .0 h in
+-- what fits so many roles fits more
+fits-more : (m n : ℕ) (g : Trigger) → m ≤ n → triggerFits m g ≡ true → triggerFits n g ≡ true
+fits-more m n g l h =
+    let w : TriggerWithin m g = trigger-says m g .0 h in
     trigger-says n g .1
     (record {
       some-event = w .some-event;
       few-events = w .few-events;
       few-conditions = w .few-conditions;
-      events = λ j m. omega (arith, w .events j m);
-      conditions = λ j m. omega (arith, w .conditions j m);
+      events = λ j b. omega (arith, w .events j b);
+      conditions = λ j b. omega (arith, w .conditions j b);
       head = omega (arith, w .head);
       priority = w .priority;
       delay = w .delay;
     })
 
-module _ (rules : List Rule) (rest : Rest) where
+module _ (roles : ℕ) (rules : List Rule) (rest : Rest) where
   abbrev sh : Sheet
   sh = sheetWith rest rules
 
-  rules-good : Fits rest → goodOrder (rulesAlone rules) ≡ true → GoodOrder sh
+  rules-good : Fits roles rest → goodOrder (rulesAlone roles rules) ≡ true → GoodOrder sh
   rules-good f h =
-      let g : GoodOrder (rulesAlone rules) = good-order (rulesAlone rules) h in
+      let g : GoodOrder (rulesAlone roles rules) = good-order (rulesAlone roles rules) h in
       record {
         some-role = f .good .some-role;
         few-roles = f .good .few-roles;
         few-periodics = f .good .few-periodics;
         few-triggers = g .few-triggers;
         periodics = f .good .periodics;
-        triggers = λ i l. fits-more (rest .roleCount) (triggerOf (ruleAt rules i)) (f .roles) (g .triggers i l);
+        triggers = λ i l. fits-more roles (rest .roleCount) (triggerOf (ruleAt rules i)) (f .enough) (g .triggers i l);
       }
 
   -- the tests look at the rules alone
-  rules-levels : (levels : List ℕ) → leveled (rulesAlone rules) (listed levels) ≡ true → Levels sh (listed levels)
+  rules-levels : (levels : List ℕ) → leveled (rulesAlone roles rules) (listed levels) ≡ true → Levels sh (listed levels)
   unfolding leveled counts node
   rules-levels levels h = leveled-levels sh (listed levels) h
 
-  rules-loop : (place : ℕ) (back : List ℕ) → loopsAt (rulesAlone rules) place back ≡ true → LoopAt sh place
+  rules-loop : (place : ℕ) (back : List ℕ) → loopsAt (rulesAlone roles rules) place back ≡ true → LoopAt sh place
   unfolding loopsAt counts node drawn edge
   rules-loop place back h = loops-at sh place back h
 
-  rules-solve : (ST : Roles) (G : Events) (ms : List Prioritized) → selfCaused (rulesAlone rules) (ready (rulesAlone rules) noRoles) G ms ≡ true → selfCaused sh (ready sh ST) G ms ≡ true
+  rules-solve : (ST : Roles) (G : Events) (ms : List Prioritized) → selfCaused (rulesAlone roles rules) (ready (rulesAlone roles rules) noRoles) G ms ≡ true → selfCaused sh (ready sh ST) G ms ≡ true
   unfolding selfCaused round fire ready allows allBelow
   rules-solve ST G ms h = h
 
-  accepted-is : (levels : List ℕ) → Fits rest → passes (accepted rules levels) ≡ true → Accepted sh
+  accepted-is : (levels : List ℕ) → Fits roles rest → passes (accepted roles rules levels) ≡ true → Accepted sh
   accepted-is levels f h =
-      let good : GoodOrder sh = rules-good f (and-left (goodOrder (rulesAlone rules)) _ h) in
-      let nl : NoLoop sh = levels-noloop sh (listed levels) (rules-levels levels (and-right (goodOrder (rulesAlone rules)) _ h)) in
+      let good : GoodOrder sh = rules-good f (and-left (goodOrder (rulesAlone roles rules)) _ h) in
+      let nl : NoLoop sh = levels-noloop sh (listed levels) (rules-levels levels (and-right (goodOrder (rulesAlone roles rules)) _ h)) in
       record { good = good; no-loop = nl; verdict = judge-refuses-not sh good nl }
 
-  loops-is : (place : ℕ) (back : List ℕ) → Fits rest → passes (loops rules place back) ≡ true → Refused sh place
+  loops-is : (place : ℕ) (back : List ℕ) → Fits roles rest → passes (loops roles rules place back) ≡ true → Refused sh place
   loops-is place back f h =
-      let good : GoodOrder sh = rules-good f (and-left (goodOrder (rulesAlone rules)) _ h) in
-      let loop : LoopAt sh place = rules-loop place back (and-right (goodOrder (rulesAlone rules)) _ h) in
+      let good : GoodOrder sh = rules-good f (and-left (goodOrder (rulesAlone roles rules)) _ h) in
+      let loop : LoopAt sh place = rules-loop place back (and-right (goodOrder (rulesAlone roles rules)) _ h) in
       record { loop = loop; verdict = judge-finds sh good place loop }
 
-  solved-is : (givens solution : List Prioritized) (levels : List ℕ) → passes (solved rules givens solution levels) ≡ true → OnlySolution sh (among givens) (among solution)
+-- whatever the role count
+module _ (rules : List Rule) (rest : Rest) where
+  solved-is : (givens solution : List Prioritized) (levels : List ℕ) → passes (solved rules givens solution levels) ≡ true → OnlySolution (sheetWith rest rules) (among givens) (among solution)
   solved-is givens solution levels h =
-      let solving : Bool = eachOf givens (among solution) && selfCaused (rulesAlone rules) (ready (rulesAlone rules) noRoles) (among givens) solution in
+      let sh : Sheet = sheetWith rest rules in
+      let solving : Bool = eachOf givens (among solution) && selfCaused (rulesAlone 1 rules) (ready (rulesAlone 1 rules) noRoles) (among givens) solution in
       let h₁ : solving ≡ true = and-left solving _ h in
-      let lv : Levels sh (listed levels) = rules-levels levels (and-right solving _ h) in
+      let lv : Levels sh (listed levels) = rules-levels 1 rules rest levels (and-right solving _ h) in
       let s : (ST : Roles) → Solves sh ST (among givens) (among solution)
       = λ ST.
       caused-least sh (ready sh ST) (among givens) solution
       (among-part givens (among solution) (and-left (eachOf givens (among solution)) _ h₁))
-      (rules-solve ST (among givens) solution (and-right (eachOf givens (among solution)) _ h₁)) in
+      (rules-solve 1 rules rest ST (among givens) solution (and-right (eachOf givens (among solution)) _ h₁)) in
       record { solution = s; only = λ ST T t. levels-unique sh (listed levels) lv ST (among givens) T (among solution) t (s ST) }
 
-  as-given-is : (G : Events) → passes (as-given rules) ≡ true → OnlySolution sh G G
+  as-given-is : (G : Events) → passes (as-given rules) ≡ true → OnlySolution (sheetWith rest rules) G G
   as-given-is G h =
       let late : (i : ℕ) → i < length rules → immediate (triggerOf (ruleAt rules i)) ≡ false
       = λ i l. not-true (immediate (triggerOf (ruleAt rules i))) (all-elim (length rules) (λ i. not (immediate (triggerOf (ruleAt rules i)))) h i l) in
-      record { solution = λ ST. late-solves sh late ST G; only = λ ST. late-only sh late ST G }
+      record { solution = λ ST. late-solves (sheetWith rest rules) late ST G; only = λ ST. late-only (sheetWith rest rules) late ST G }
 
 -- ---- a body that no solution meets
 
@@ -168,22 +171,27 @@ never-is events h g b S =
 -- ---- a day
 
 worked-is : (d : Day) → passes (worked d) ≡ true → Worked d
-unfolding tapeFound rolesIn rowsIn anyBelow
+unfolding minutesFound rolesIn rowsIn anyBelow
 worked-is d h =
-    let right : ℕ → Bool = λ i. framed (tapeLine d i) && checked (bytesOf (tapeLine d i)) in
-    let input : Bool = readFound d && tapeFound d in
-    let rules : Bool = goodOrder (sheetOfDay d) && leveled (sheetOfDay d) (listed (d .levels)) in
-    let h₁ = and-left (input && rules) _ h in
-    let h₂ : input ≡ true = and-left input rules h₁ in
-    let h₃ : rules ≡ true = and-right input rules h₁ in
-    let good : GoodOrder (sheetOfDay d) = good-order (sheetOfDay d) (and-left (goodOrder (sheetOfDay d)) _ h₃) in
-    let nl : NoLoop (sheetOfDay d) = levels-noloop (sheetOfDay d) (listed (d .levels)) (leveled-levels (sheetOfDay d) (listed (d .levels)) (and-right (goodOrder (sheetOfDay d)) _ h₃)) in
-    let tape : (i : ℕ) → i < length (tapeStrings (d .input)) → right i ≡ true = all-elim (length (tapeStrings (d .input))) right (and-right (readFound d) _ h₂) in
+    let ms : List Minute = d .minutes in
+    let sh : Sheet = sheetOfDay d in
+    let found : ℕ → Bool = λ t. minuteFound sh (d .requests) t (rolesBefore ms t) (waitsBefore ms t) (minuteAt ms t) in
+    let rules : Bool = goodOrder sh && leveled sh (listed (d .levels)) in
+    let h₁ : rules ≡ true = and-left rules _ h in
+    let h₂ = and-right rules _ h in
+    let h₃ = and-right (openFound d) _ h₂ in
+    let good : GoodOrder sh = good-order sh (and-left (goodOrder sh) _ h₁) in
+    let nl : NoLoop sh = levels-noloop sh (listed (d .levels)) (leveled-levels sh (listed (d .levels)) (and-right (goodOrder sh) _ h₁)) in
+    let input : openFound d ≡ true = and-left (openFound d) _ h₂ in
+    let fresh : Fresh noRoles (stateBefore ms 0) = record { instant = refl; roles = λ r. refl; waiting = λ k e p l. refl } in
+    let minutes : (t : ℕ) → t ≤ d .last → Found d t
+    = λ t l. minute-found sh (d .requests) t (rolesBefore ms t) (waitsBefore ms t) good nl (minuteAt ms t) (all-elim (suc (d .last)) found (and-left (minutesFound d) _ h₃) t (omega arith)) in
     record {
-      read = reads-to d good nl (and-left (readFound d) _ h₂);
-      tape = λ i l. (and-left (framed (tapeLine d i)) _ (tape i l), and-right (framed (tapeLine d i)) _ (tape i l));
-      fresh = record { instant = refl; roles = λ r. refl; waiting = λ k e p l. refl };
-      minutes = minutes-found (sheetOfDay d) good nl (askedAt (tapeStrings (d .input))) 0 [] [] (d .minutes) (and-right (input && rules) _ h);
+      read = opens-read d good nl input;
+      opened = opens-to d good nl input;
+      fresh = fresh;
+      minutes = minutes;
+      printed = prints-found d good nl fresh minutes (opens-within d good nl input) (and-right (minutesFound d) (linesFound d) h₃) (opens-to d good nl input);
     }
 
 -- ---- THE LAW
@@ -192,8 +200,8 @@ sound : (x : Example) → passes x ≡ true → Says x
 sound (each n f) h = λ i l. sound (f i) (all-elim n (λ i. passes (f i)) h i l)
 sound (due-at period first run t b) h = due-is period first run t b h
 sound (wins-over w l) h = wins-is w l h
-sound (accepted rules levels) h = λ rest f. accepted-is rules rest levels f h
-sound (loops rules place back) h = λ rest f. loops-is rules rest place back f h
+sound (accepted roles rules levels) h = λ rest f. accepted-is roles rules rest levels f h
+sound (loops roles rules place back) h = λ rest f. loops-is roles rules rest place back f h
 sound (solved rules givens solution levels) h = λ rest. solved-is rules rest givens solution levels h
 sound (as-given rules) h = λ rest G. as-given-is rules rest G h
 sound (never-fires events) h = λ sh i l b ST G S s. never-is events h (sh .trigger i) b S
