@@ -6,7 +6,7 @@
 -- Assumes nothing.
 use mathlib.Core.Path.{_≡_, refl, sym, ap, _∙_}
 use mathlib.Core.Logic.{_⊎_, inl, inr, ⊎-elim, _↔_}
-use mathlib.Core.List.{List}
+use mathlib.Core.List.{List, _++_}
 use Prim.Native.Nat.{ℕ, suc, _^_, _≤_, _<_}
 use lib.ListN.{length}
 use Rattle.theory.specs.Numbers.{EVENTS}
@@ -25,6 +25,7 @@ use Rattle.answers.specs.declared.Refusal.{Refusal}
 use Rattle.answers.specs.declared.Verdict.{Verdict}
 use Rattle.answers.specs.declared.Verdict.the-variants.{Pass, Refuse}
 use Rattle.answers.specs.Answers.{numberOf, answered}
+use Rattle.text.specs.Lines.{lines}
 use Rattle.tables.specs.Layout.{sheetOf}
 use Rattle.tables.specs.Buffers.{eventsOf, Narrow}
 use Rattle.tables.specs.Asked.{Asked}
@@ -46,6 +47,8 @@ use Rattle.step.specs.Laws.Exact
 use Rattle.step.specs.Laws.Used
 use Rattle.runs.specs.Runs.{Steps, GoesOn, IsPapers}
 use Rattle.runs.specs.Laws.{run-is-papers}
+use Rattle.split.specs.Split.{upToEnd, afterEnd, sheetPart, tapePart}
+use Rattle.split.specs.Laws.Parts
 use Rattle.openings.specs.Opening.{opens, refuses, opening}
 use Rattle.day_lines.specs.Lines.{OUTPUT-BYTES}
 use Rattle.days.specs.declared.Printed.{Printed}
@@ -199,6 +202,12 @@ pub reading-passes : (sheet p t : List ℕ) (r : Read) (p′ t′ : List ℕ) �
 reading-passes = Accepted.reading-passes
 
 -- ==== THE DAY: an input prints exactly one thing, the refusal, or the lines of the paper's canonical execution model of its sheet and its tape (`Prints`).
+
+-- The lines of its sheet are those up to and with the first that begins F0, or all of them; the lines of its tape are those after it; and the two parts make up the input.
+pub parts-are : (input : List ℕ) → (lines (sheetPart input) ≡ upToEnd (lines input)) × (lines (tapePart input) ≡ afterEnd (lines input)) × (sheetPart input ++ tapePart input ≡ input)
+parts-are input = (Parts.sheet-lines input, Parts.tape-lines input, Parts.parts-whole input)
+
+-- An input has exactly one day.
 pub one-day : (input : List ℕ) → ExactlyOne (Prints (opening input))
 one-day = There.one-day
 

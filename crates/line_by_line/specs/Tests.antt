@@ -32,7 +32,7 @@ roleCount (f ∷ fs) = byteAt f 2
 abbrev pub known : ℕ → Bool
 known k = eqb k HEADER || (eqb k PERIODIC || (eqb k TRIGGER || eqb k END))
 
--- its place, after these frames: the header on the first line only, and nothing after an end
+-- its place, after these frames: the first line is the header and no other is, and nothing stands after an end
 abbrev pub inPlace : List (List ℕ) → ℕ → Bool
 inPlace [] k = eqb k HEADER
 inPlace (f ∷ fs) k = not (eqb k HEADER) && eqb (howMany END (f ∷ fs)) 0
