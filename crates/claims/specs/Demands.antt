@@ -149,7 +149,7 @@ pub step-ok : (R : Rules) (q : Asked) (l : Lent) (v : Verdict) (a : Lent) → Ou
 step-ok = Step.step-ok
 
 -- From the empty start, over any run of accepted steps under one sheet, events and roles are the paper's: whatever stands in unused places of the tables that are lent to each, and whatever
--- requests come later, there is exactly one canonical execution model (004, definitions 3.7 to 3.9), and the steps agree with it in the events of each instant and in the roles before and
+-- requests within their limits come later, there is exactly one canonical execution model (004, definitions 3.7 to 3.9), and the steps agree with it in the events of each instant and in the roles before and
 -- after it.
 pub run-is-the-papers : (n : ℕ) (R : Rules) (tables : ℕ → Rules) (asked : ℕ → Asked) (before after : ℕ → Lent) → Steps (suc n) R tables asked before after → (RQ : Stream) → GoesOn (suc n) R asked RQ
     → IsPapers (suc n) R before after RQ
