@@ -4,7 +4,7 @@ use mathlib.Core.Path.{_≡_, refl, sym, ap, _∙_}
 use mathlib.Core.Logic.{⊎-elim}
 use mathlib.Core.Bool.{Bool, true, false, not, cond, _&&_, _||_}
 use mathlib.Core.List.{List, [], _∷_, _++_}
-use Prim.Native.Nat.{ℕ, _+_, _*_}
+use Prim.Native.Nat.{ℕ, _+_, _*_, _≤_}
 use native.Mathlib.Omega.{arith}
 use lib.Dec.{eqb}
 use lib.ListN.{length, length-append}
@@ -148,26 +148,25 @@ module _ (fs : List (List ℕ)) (f : List ℕ) (room : roomFor (kind f) (howMany
   abbrev m : ℕ
   m = howMany TRIGGER fs
 
-  -- the periodic table holds the row of a periodic frame, and the trigger table that of a trigger
+  -- a table that holds the rows of one kind holds the row of a frame of that kind more, where there is room for it
+  table-more : (w width size : ℕ) (row : List ℕ → List ℕ) → ((g : List ℕ) → length (row g) ≡ width) → (kind f ≡ w → length (rowsOf w row fs) + width ≤ size)
+      → tableAfter (kind f) w (howMany w fs) (row f) (padded size (rowsOf w row fs)) ≡ padded size (rowsOf w row (fs ++ f ∷ []))
+  table-more w width size row wide fits =
+      table-after size (rowsOf w row fs) (row f) (kind f) w (howMany w fs)
+      (rows-length w row width wide fs ∙ ap (λ (x : ℕ). x * howMany w fs) (sym (wide f)))
+      (λ (e : kind f ≡ w). omega (arith, wide f, fits e))
+      ∙ ap (padded size) (sym (rows-more w row fs f))
+
+  -- so do the periodic table and the trigger table
   periodic-more : tableAfter (kind f) PERIODIC n (periodicRow f) (periodicTable fs) ≡ periodicTable (fs ++ f ∷ [])
   periodic-more =
-      let rows : List ℕ = rowsOf PERIODIC periodicRow fs in
-      let wide : length rows ≡ 16 * n = rows-length PERIODIC periodicRow 16 length-periodic fs in
-      let row : length (periodicRow f) ≡ 16 = length-periodic f in
-      table-after PERIODIC-TABLE rows (periodicRow f) (kind f) PERIODIC n
-      (wide ∙ ap (λ (w : ℕ). w * n) (sym row))
-      (λ (e : kind f ≡ PERIODIC). omega (arith, wide, row, room-periodics (kind f) n m room e))
-      ∙ ap (padded PERIODIC-TABLE) (sym (rows-more PERIODIC periodicRow fs f))
+      table-more PERIODIC 16 PERIODIC-TABLE periodicRow length-periodic (λ (e : kind f ≡ PERIODIC).
+      omega (arith, rows-length PERIODIC periodicRow 16 length-periodic fs, room-periodics (kind f) n m room e))
 
   trigger-more : tableAfter (kind f) TRIGGER m (triggerRow f) (triggerTable fs) ≡ triggerTable (fs ++ f ∷ [])
   trigger-more =
-      let rows : List ℕ = rowsOf TRIGGER triggerRow fs in
-      let wide : length rows ≡ 13 * m = rows-length TRIGGER triggerRow 13 length-trigger fs in
-      let row : length (triggerRow f) ≡ 13 = length-trigger f in
-      table-after TRIGGER-TABLE rows (triggerRow f) (kind f) TRIGGER m
-      (wide ∙ ap (λ (w : ℕ). w * m) (sym row))
-      (λ (e : kind f ≡ TRIGGER). omega (arith, wide, row, room-triggers (kind f) n m room e))
-      ∙ ap (padded TRIGGER-TABLE) (sym (rows-more TRIGGER triggerRow fs f))
+      table-more TRIGGER 13 TRIGGER-TABLE triggerRow length-trigger (λ (e : kind f ≡ TRIGGER).
+      omega (arith, rows-length TRIGGER triggerRow 13 length-trigger fs, room-triggers (kind f) n m room e))
 
 -- ---- both
 
