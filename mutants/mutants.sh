@@ -8,10 +8,10 @@ build_finder() {
 }
 
 # draw_changes N SEED [CRATE]: the changes to try stand in `drawn`, crate by crate, each after how many of its crate are asked for. Programs
-# that only try things, try_NAME, are left out: no contract speaks of what they do.
+# that only try things, try_NAME, and what they share, cases, are left out: no contract speaks of what they do.
 draw_changes() {
     (cd "$work/1" && "$finder" list crates/*/src/*.rt) >"$work/list" || return 1
-    awk -F '\t' -v only="${3-}" '$1 !~ /^try_/ && (only == "" || $1 == only)' "$work/list" >"$work/mine"
+    awk -F '\t' -v only="${3-}" '$1 !~ /^(try_.*|cases)$/ && (only == "" || $1 == only)' "$work/list" >"$work/mine"
     "$finder" draw "$1" "$2" <"$work/mine" >"$work/drawn" || return 1
     cut -f 2 "$work/drawn" | uniq >"$work/names"
 }
@@ -201,7 +201,7 @@ known_crate() {
     case $crate in
     '') return ;;
     *[!A-Za-z0-9_]*) misuse mutants "takes as a crate one that crates.txt lists, and not '$crate'" ;;
-    try_*) misuse mutants "leaves $crate out: it only tries things, and no contract speaks of it" ;;
+    try_* | cases) misuse mutants "leaves $crate out: it only tries things, and no contract speaks of it" ;;
     esac
     listed "$crate" || misuse mutants "takes as a crate one that crates.txt lists, and not '$crate'"
 }

@@ -25,7 +25,7 @@ kept() {
 lay_entry() {
     copy=$work/entry
     mkdir -p "$copy/crates/try_entry/src" && ln -s "$top"/crates/* "$copy/crates/" || return 1
-    { cat crates.txt && sed -n 's/^try_step: step /try_entry: entry requests /p' crates.txt; } >"$copy/crates.txt" || return 1
+    { cat crates.txt && sed -n 's/^try_step:\(.*\) step /try_entry:\1 entry requests /p' crates.txt; } >"$copy/crates.txt" || return 1
     { kept && cat tests/try_entry.txt; } >"$copy/crates/try_entry/src/main.rt"
 }
 

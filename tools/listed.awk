@@ -2,8 +2,7 @@
 # Below the name of a function stands its theorem. It is read as a telescope, parts that an arrow ends, and a conclusion.
 # - A part is made of binders of plain data, or it is a hypothesis. A hypothesis is listed below HYPOTHESES with its reason, and what is listed there is there.
 # - What the contract speaks of is bound: the theorem is said for all of it.
-# - The conclusion is `Exact` of the contract, word for word, over the answer and the end of all that is lent to be changed. Or both outcomes are spelled out, each a part
-#   with the words of the contract, the second with ₂; then the conclusion is listed too.
+# - The conclusion is `Exact` of the contract, word for word, over the answer and the end of all that is lent to be changed.
 # - A word means here what it means in the contract: it comes from the same file. `Exact` says that any two outcomes are equal, and nothing else is defined or renamed.
 
 function amiss(words) { print "listed: " words; bad = 1 }
@@ -129,14 +128,19 @@ function take_contract(s) {
     contract[fn] = said(words_of(s))
 }
 
+# a contract may stand over several lines: it is taken as one
 FILENAME ~ /\.rt$/ {
-    if (/^ghost use /) { split(FILENAME, path, "/"); take_use(path[2], $0) }
-    if (/^pub fn /) open_function($3)
+    line = $0
+    if (clause != "") { sub(/^ +/, "", line); line = clause " " line }
+    clause = line ~ /^    (requires|ensures) / && line !~ /⌝ \}$/ ? line : ""
+    if (clause != "") next
+    if (line ~ /^ghost use /) { split(FILENAME, path, "/"); take_use(path[2], line) }
+    if (line ~ /^pub fn /) open_function($3)
     if (fn == "") next
-    if (/\{$/) { close_function(); next }
-    if (/^    requires/) asks[fn] = 1
-    if (/^    ensures/ && !(fn in contract)) take_contract($0)
-    if (!/^    (requires|ensures) /) head = head " " $0
+    if (line ~ /\{$/) { close_function(); next }
+    if (line ~ /^    requires/) asks[fn] = 1
+    if (line ~ /^    ensures/ && !(fn in contract)) take_contract(line)
+    if (line !~ /^    (requires|ensures) /) head = head " " line
     next
 }
 
@@ -198,22 +202,6 @@ function all_bound(fn,    n, i, w) {
     for (i = 1; i <= n; i++) if (index(" " contract[fn] " ", " " w[i] " ") && !index(bound, " " w[i] " ")) amiss(fn ": the theorem is not said for all " w[i])
 }
 
-# the words of the contract, of a second outcome
-function of_second(fn,    s, i) {
-    s = " " contract[fn] " "
-    gsub("′", "₂", s)
-    while (outcome[fn] != "" && (i = index(s, " " outcome[fn] " "))) s = substr(s, 1, i) outcome[fn] "₂" substr(s, i + 1 + length(outcome[fn]))
-    gsub(/^ | $/, "", s)
-    return s
-}
-
-# both outcomes are spelled out as the last two hypotheses
-function spelled_out(fn) {
-    if (asked[hypotheses] != fn "\t" of_second(fn) || asked[hypotheses - 1] != fn "\t" contract[fn]) return 0
-    hypotheses -= 2
-    return 1
-}
-
 function close_entry(    end, word) {
     if (entry in is_public && !(entry in contract)) amiss(entry " has no contract that a theorem could say")
     else if (entry in is_public && theorem == "") amiss(entry " has no theorem below its name")
@@ -222,10 +210,7 @@ function close_entry(    end, word) {
         all_bound(entry)
         word = other_meaning(entry, statement)
         if (word != "") amiss(entry ": " word " is not the " word " of its contract")
-        if (end != exactly(entry)) {
-            if (spelled_out(entry)) ends[entry] = end
-            else amiss(entry ": the theorem does not conclude " written(exactly(entry)) ", as its contract says")
-        }
+        if (end != exactly(entry)) amiss(entry ": the theorem does not conclude " written(exactly(entry)) ", as its contract says")
     }
     entry = theorem = statement = ""
     open = 0
@@ -255,21 +240,19 @@ function exact_says(n,    i, a, heads, both, one, other, equal) {
 
 # ---- crates/claims
 
-# a line below HYPOTHESES: FUNCTION asks `..`: reason, or FUNCTION concludes `..`: reason
+# a line below HYPOTHESES: FUNCTION asks `..`: reason
 function take_listed(    s, w) {
     split($0, w, "`")
     s = $0
     sub(/^[^`]*`[^`]*`/, "", s)
-    if (($3 != "asks" && $3 != "concludes") || w[2] == "" || s !~ /^: [^ ]/) { amiss("below HYPOTHESES stands no hypothesis with its reason: " $0); return }
-    s = words_of(w[2])
-    if ($3 == "asks") allowed[++allowances] = $2 "\t" s
-    else ending[$2] = s
+    if ($3 != "asks" || w[2] == "" || s !~ /^: [^ ]/) { amiss("below HYPOTHESES stands no hypothesis with its reason: " $0); return }
+    allowed[++allowances] = $2 "\t" words_of(w[2])
 }
 
 BEGIN {
     split("- ₂ ₃ ₄ ₅", mark, " ")
     mark[1] = ""
-    data["Prim.Native.Nat.ℕ"] = data["mathlib.Core.Bool.Bool"] = data["mathlib.Core.List.List"] = data["Rattle.event_rows.specs.Row.Row"] = 1
+    data["Prim.Native.Nat.ℕ"] = data["mathlib.Core.Bool.Bool"] = data["mathlib.Core.List.List"] = data["Rattle.reach_row.specs.Row.Row"] = 1
 }
 
 FNR == 1 { close_entry(); part = "" }
@@ -301,7 +284,6 @@ END {
         fn = public[i]
         if (!(fn in listed)) amiss(fn " stands in no theorem of crates/claims and is no exception")
         if (fn in asks && !(fn in told)) amiss(fn " asks something of its caller, and crates/claims does not say what")
-        if (ends[fn] != ending[fn]) amiss(fn ": the theorem concludes `" written(ends[fn]) "`, and listed is `" written(ending[fn]) "`")
     }
     for (i = 1; i <= hypotheses; i++) there[asked[i]] = 1
     for (i = 1; i <= allowances; i++) {

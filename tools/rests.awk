@@ -126,9 +126,13 @@ function take_spec(line,    at) {
 # ---- reading: the code
 
 # types, and of functions the signature and the contract
+# a contract may stand over several lines: it is taken as one
 function take_code(line,    w) {
+    if (clause != "") { sub(/^ +/, "", line); line = clause " " line; lines[key]++ }
+    clause = place == "head" && line ~ /^ *(requires|ensures) / && line !~ /⌝ \}$/ ? line : ""
+    if (clause != "") return
     if (line ~ /^ghost use /) take_use(line)
-    if (line ~ /^use [a-z_]+::[A-Z]/) { split(line, w, /[ :;]+/); means(w[3], w[2] "/src" SUBSEP w[3]) }
+    if (line ~ /^use [a-z_]+::[A-Z][A-Za-z0-9]*[a-z]/) { split(line, w, /[ :;]+/); means(w[3], w[2] "/src" SUBSEP w[3]) }
     sub(/^pub /, "", line)
     if (line ~ /^(struct|enum|type|fn) /) {
         split(line, w, /[ (<;]+/)
@@ -233,11 +237,11 @@ function walk_items(    n, i, w) {
     }
 }
 
-# the types that a line of code names; what an enum's line begins with is its own
+# the types that a line of code names; what an enum's line begins with is its own, and a name all in capitals is a number
 function walk_types(line, skipped,    n, i, w) {
     gsub(/[^A-Za-z0-9_]+/, " ", line)
     n = split(line, w, " ")
-    for (i = 1 + skipped; i <= n; i++) if (w[i] ~ /^[A-Z]/) cite(w[i])
+    for (i = 1 + skipped; i <= n; i++) if (w[i] ~ /^[A-Z].*[a-z]/) cite(w[i])
 }
 
 # first the signature, whose names the contract speaks of
@@ -422,7 +426,7 @@ BEGIN {
     for (i in w) relation[w[i]] = 1
     split("ℕ Bool List String Char", w, " ")
     for (i in w) kit_data[w[i]] = 1
-    n = split("sheet::read_sheet step::step entry::step_requests days::day", w, " ")
+    n = split("reader::read_sheet step::step entry::step_requests day_print::day", w, " ")
     for (i = 1; i <= n; i++) entry[before(w[i], "::") "/src" SUBSEP after(w[i], "::")] = 1
     # proofs that stand among definitions, and why
     excuse["claims/Demands" SUBSEP "*"] = "the theorems that an auditor reads first"

@@ -4,8 +4,9 @@
 use Prim.Native.Nat.{ℕ}
 use Rattle.answers.specs.declared.Name.{Name}
 use Rattle.answers.specs.declared.Name.the-variants.{Length, Frame, Check, Kind, Field, TooMany, Count, Loop, Request, Last}
+use Rattle.answers.specs.declared.Refusal.{Refusal}
 use Rattle.answers.specs.declared.Verdict.{Verdict}
-use Rattle.answers.specs.declared.Verdict.the-variants.{Pass, Refuse}
+use Rattle.answers.specs.declared.Verdict.the-variants.{Pass, Refused}
 use Rattle.answers.specs.declared.Answer.{Answer}
 
 -- the number of each refusal
@@ -24,13 +25,17 @@ numberOf Last = 10
 -- OK is number 0 with place 0; a refusal is its number and its place
 abbrev pub answered : Verdict → Answer
 answered Pass = record { number = 0; place = 0 }
-answered (Refuse r) = record { number = numberOf (r .name); place = r .place }
+answered (Refused r) = record { number = numberOf (r .name); place = r .place }
 
 -- a refusal, at its place
+abbrev pub refusal : Name → ℕ → Refusal
+refusal name place = record { name = name; place = place }
+
+-- the verdict that refuses
 abbrev pub refuse : Name → ℕ → Verdict
-refuse name place = Refuse (record { name = name; place = place })
+refuse name place = Refused (refusal name place)
 
 -- a later test is asked only where those before it pass
 unfoldable pub andThen : Verdict → Verdict → Verdict
 andThen Pass later = later
-andThen (Refuse r) later = Refuse r
+andThen (Refused r) later = Refused r

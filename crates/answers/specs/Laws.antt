@@ -8,15 +8,15 @@ use native.Mathlib.Omega.{arith}
 use Rattle.answers.specs.declared.Name.{Name}
 use Rattle.answers.specs.declared.Refusal.{Refusal}
 use Rattle.answers.specs.declared.Verdict.{Verdict}
-use Rattle.answers.specs.declared.Verdict.the-variants.{Pass, Refuse}
+use Rattle.answers.specs.declared.Verdict.the-variants.{Pass, Refused}
 use Rattle.answers.specs.Answers.{refuse, andThen}
 
-pub verdict-cases : (v : Verdict) → (v ≡ Pass) ⊎ ((r : Refusal) × (v ≡ Refuse r))
+pub verdict-cases : (v : Verdict) → (v ≡ Pass) ⊎ ((r : Refusal) × (v ≡ Refused r))
 verdict-cases Pass = inl refl
-verdict-cases (Refuse r) = inr (r, refl)
+verdict-cases (Refused r) = inr (r, refl)
 
 -- a refusal is no pass
-pub no-pass : {C : Type 0} (r : Refusal) → Refuse r ≡ Pass → C
+pub no-pass : {C : Type 0} (r : Refusal) → Refused r ≡ Pass → C
 no-pass r e = absurd (let z : _≡_ {A = ℕ} 0 1 = cc in omega arith)
 
 -- where a test that must hold does not, there is a refusal
@@ -28,4 +28,4 @@ cond-pass false v name place e = no-pass _ e
 pub both-pass : (v w : Verdict) → andThen v w ≡ Pass → (v ≡ Pass) × (w ≡ Pass)
 unfolding andThen
 both-pass Pass w e = (refl, e)
-both-pass (Refuse r) w e = no-pass r e
+both-pass (Refused r) w e = no-pass r e

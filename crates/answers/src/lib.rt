@@ -1,5 +1,6 @@
+// What comes back of every entry: a verdict, its refusal with its place, and both in document 01's numbers. Every refusal is made here.
 ghost use mathlib.Core.Path.{_≡_};
-ghost use Rattle.answers.specs.Answers.{numberOf, answered};
+ghost use Rattle.answers.specs.Answers.{numberOf, answered, refusal, refuse, andThen};
 
 // The refusals of document 01, 'What comes back', by name.
 pub enum Name {
@@ -24,13 +25,40 @@ pub struct Refusal {
 // What a judge says: nothing against it, or the refusal.
 pub enum Verdict {
     Pass,
-    Refuse(Refusal),
+    Refused(Refusal),
 }
 
 // An answer in document 01's numbers.
 pub struct Answer {
     pub number: u8,
     pub place: u32,
+}
+
+// A refusal, at its place. Every one is made here.
+pub fn refusal_of(name: Name, place: u32) -> Refusal
+    ensures { λ r. ⌜ r ≡ refusal name place ⌝ }
+{
+    Refusal {
+        name: name,
+        place: place,
+    }
+}
+
+// The verdict that refuses, at its place.
+pub fn refuse(name: Name, place: u32) -> Verdict
+    ensures { λ r. ⌜ r ≡ refuse name place ⌝ }
+{
+    Verdict::Refused(refusal_of(name, place))
+}
+
+// A later test is asked only where those before it pass.
+pub fn and_then(first: Verdict, later: Verdict) -> Verdict
+    ensures { λ r. ⌜ r ≡ andThen first later ⌝ }
+{
+    match first {
+        Verdict::Pass => later,
+        Verdict::Refused(r) => Verdict::Refused(r),
+    }
 }
 
 // Document 01's number of a refusal.
@@ -60,7 +88,7 @@ pub fn answer_of(verdict: Verdict) -> Answer
             number: 0,
             place: 0,
         },
-        Verdict::Refuse(r) => {
+        Verdict::Refused(r) => {
             let name = r.name;
             Answer {
                 number: number_of(name),

@@ -1,3 +1,4 @@
+// What requests add: those without a delay join the events, those with one join the row of their instant in the waiting buffer.
 ghost use mathlib.Core.Path.{_≡_};
 ghost use Rattle.tables.specs.Asked.{requestAt};
 ghost use Rattle.masks.specs.Joins.{joins};

@@ -1,9 +1,10 @@
+// Whether the conditions of a trigger all hold in the roles, and whether each event of its body has a nonblocked member; of any row of any table.
 ghost use mathlib.Core.Path.{_≡_};
 ghost use Rattle.theory.specs.Events.{holds};
 ghost use Rattle.theory.specs.Instant.{allows, met};
 ghost use Rattle.tables.specs.Layout.{triggerAt};
 ghost use Rattle.tables.specs.Buffers.{rolesOf, eventsOf};
-use live::live;
+use nonblocked::live;
 use roles::role_on;
 use tables::CONDITION_COUNT;
 use tables::EVENT_COUNT;

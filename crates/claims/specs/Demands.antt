@@ -1,6 +1,6 @@
 -- READ THIS FIRST: what is proved of the box, demand by demand. Each theorem is stated with the definitions alone, and its proof cites the law that says it.
 -- The definitions are document 01's words. `theory` is its model: `Sheet` (rows, limits, due), `Instant` (the equation), `Graph` (loops), `Model` (the paper's runs), `Box` (a step). `reading`
--- (sheet/Sheet) is what the reader gives, `Outcome` (step/Outcome) what a step gives, `DayOutcome` and `Prints` (days/Day) what a day gives and prints. The contracts of the code are these same
+-- (reader/Reading) is what the reader gives, `Outcome` (step/Outcome) what a step gives, `DayOutcome` and `Prints` (day_print/Day) what a day gives and prints. The contracts of the code are these same
 -- definitions: `read_sheet` (sheet/src), `step` (step/src), `step_requests` (entry/src), `day` (days/src). None of the four asks anything of its caller. A few words that no crate below has are in
 -- `Words`.
 -- Assumes nothing.
@@ -9,6 +9,7 @@ use mathlib.Core.Logic.{_⊎_, inl, inr, ⊎-elim, _↔_}
 use mathlib.Core.List.{List, _++_}
 use Prim.Native.Nat.{ℕ, suc, _^_, _≤_, _<_}
 use lib.ListN.{length}
+use Rattle.tables.specs.declared.Counts.{Counts}
 use Rattle.theory.specs.Numbers.{EVENTS}
 use Rattle.theory.specs.Below.{ExactlyOne}
 use Rattle.theory.specs.Events.{Events, Roles}
@@ -23,36 +24,35 @@ use Rattle.answers.specs.declared.Name.{Name}
 use Rattle.answers.specs.declared.Name.the-variants.{Length as LENGTH, Loop as LOOP}
 use Rattle.answers.specs.declared.Refusal.{Refusal}
 use Rattle.answers.specs.declared.Verdict.{Verdict}
-use Rattle.answers.specs.declared.Verdict.the-variants.{Pass, Refuse}
-use Rattle.answers.specs.Answers.{numberOf, answered}
+use Rattle.answers.specs.declared.Verdict.the-variants.{Pass, Refused}
+use Rattle.answers.specs.Answers.{numberOf, answered, refusal}
 use Rattle.text.specs.Lines.{lines}
-use Rattle.tables.specs.Layout.{sheetOf}
 use Rattle.tables.specs.Buffers.{eventsOf, Narrow}
 use Rattle.tables.specs.Asked.{Asked}
-use Rattle.readings.specs.declared.Reading.the-variants.{Good, Bad}
-use Rattle.readings.specs.declared.Read.{Read}
-use Rattle.readings.specs.Readings.{verdictOf}
-use Rattle.line_acts.specs.Acts.{Progress}
-use Rattle.hand_out.specs.Out.{ReadOutcome, readOutcome, sheetRead, handed}
-use Rattle.sheet.specs.Sheet.{reading}
+use Rattle.reader.specs.declared.Reading.the-variants.{Good, Refused}
+use Rattle.reader.specs.Answer.{verdictOf}
+use Rattle.sheet_acts.specs.Acts.{Progress}
+use Rattle.reader.specs.Out.{ReadOutcome, readOutcome, sheetRead}
+use Rattle.reader.specs.Reading.{reading}
 use Rattle.accepted.specs.Laws.Accepted
 use Rattle.line_by_line.specs.Lines.{linesIn, restIn, CutInto}
 use Rattle.line_by_line.specs.ComesBack.{RefusedAt, ReadsWhole, periodicTable, triggerTable, countsOf, LengthsFit, framesIn, ComesBack}
 use Rattle.line_by_line.specs.Laws.Cut
-use Rattle.row_judge.specs.Judge.{Rules, sheetIn, judgeTables}
+use Rattle.table_judge.specs.Judge.{judgeTables}
+use Rattle.tables.specs.Lent.{Rules, sheetIn, Lent, rules}
 use Rattle.requests.specs.Requests.{AllFit}
-use Rattle.step.specs.Outcome.{Lent, Outcome}
+use Rattle.step.specs.Outcome.{Outcome}
 use Rattle.step.specs.Used.{SameRules}
 use Rattle.step.specs.Laws.Exact
 use Rattle.step.specs.Laws.Used
 use Rattle.runs.specs.Runs.{Steps, GoesOn, IsPapers}
 use Rattle.runs.specs.Laws.{run-is-papers}
-use Rattle.split.specs.Split.{upToEnd, afterEnd, sheetPart, tapePart}
-use Rattle.split.specs.Laws.Parts
-use Rattle.openings.specs.Opening.{opens, refuses, opening}
+use Rattle.day_split.specs.Split.{upToEnd, afterEnd, sheetPart, tapePart}
+use Rattle.day_split.specs.Laws.Parts
+use Rattle.day_input.specs.Opening.{opens, refused, opening}
 use Rattle.day_lines.specs.Lines.{OUTPUT-BYTES}
-use Rattle.days.specs.declared.Printed.{Printed}
-use Rattle.days.specs.Day.{Prints, DayOutcome, written}
+use Rattle.day_print.specs.declared.Printed.{Printed}
+use Rattle.day_print.specs.Day.{Prints, DayOutcome, written}
 use Rattle.examples.specs.Example.{Said}
 use Rattle.examples.specs.Table.{table}
 use Rattle.examples.specs.Laws.Said.{all-say}
@@ -87,7 +87,7 @@ pub reader-total : (sheet p t : List ℕ) → ExactlyOne (λ (o : ReadOutcome). 
 reader-total sheet p t = (reading sheet p t, refl, λ o e. e)
 
 -- After a refusal the tables are as they came.
-pub reader-keeps : (sheet p t : List ℕ) (r : Refusal) → reading sheet p t .answer ≡ Bad r → reading sheet p t ≡ readOutcome (Bad r) p t
+pub reader-keeps : (sheet p t : List ℕ) (r : Refusal) → reading sheet p t .answer ≡ Refused r → reading sheet p t ≡ readOutcome (Refused r) p t
 reader-keeps = Reader.reader-keeps
 
 -- Any lent tables and counts, any requests, any instant, roles of 64 bits and buffers of 16-bit numbers, of whatever lengths, have exactly one outcome: an answer, and what is lent then.
@@ -95,7 +95,7 @@ pub step-total : (R : Rules) (q : Asked) (l : Lent) → l .roles < 2 ^ 64 → Na
 step-total = There.step-total
 
 -- After a refusal the instant, the roles and both buffers are what they were. (The tables are lent to be read only.)
-pub step-keeps : (R : Rules) (q : Asked) (l a : Lent) (r : Refusal) → Outcome R q l (Refuse r) a → a ≡ l
+pub step-keeps : (R : Rules) (q : Asked) (l a : Lent) (r : Refusal) → Outcome R q l (Refused r) a → a ≡ l
 step-keeps R q l a r o = o .refused r refl
 
 -- Unused rows, and the event and condition places of a trigger past its counts, are ignored: two steps with the same counts, used rows, state and requests have the same outcome.
@@ -107,7 +107,7 @@ pub day-total : (input out : List ℕ) → ExactlyOne (λ (o : Printed × List �
 day-total = There.day-total
 
 -- After a refusal, of the input or for the length of the buffer, nothing is printed there, and the buffer is what it was.
-pub day-keeps : (input out : List ℕ) (r : Printed) (out′ : List ℕ) (x : Refusal) → DayOutcome input out r out′ → r .verdict ≡ Refuse x → (r .length ≡ 0) × (out′ ≡ out)
+pub day-keeps : (input out : List ℕ) (r : Printed) (out′ : List ℕ) (x : Refusal) → DayOutcome input out r out′ → r .verdict ≡ Refused x → (r .length ≡ 0) × (out′ ≡ out)
 day-keeps = Day.day-keeps
 
 -- ==== DEMAND 2, EXACT: a sheet in good order is refused for a loop exactly when its graph has a cycle with a negative edge.
@@ -129,7 +129,7 @@ pub reader-loops : (sheet p t : List ℕ) (k : ℕ) → (answered (verdictOf (re
 reader-loops = Reader.reader-loops
 
 -- then the tables are as they came.
-pub reader-loop-keeps : (sheet p t : List ℕ) (s : Progress) → ReadsInOrder sheet p t s → (k : ℕ) → LoopAt (sheetRead s) k → reading sheet p t ≡ readOutcome (Bad (record { name = LOOP; place = k })) p t
+pub reader-loop-keeps : (sheet p t : List ℕ) (s : Progress) → ReadsInOrder sheet p t s → (k : ℕ) → LoopAt (sheetRead s) k → reading sheet p t ≡ readOutcome (Refused (refusal LOOP k)) p t
 reader-loop-keeps = Reader.refuses-loop
 
 -- It is number 0 (OK) and place 0 exactly when they read in good order and have none;
@@ -137,7 +137,7 @@ pub reader-accepts : (sheet p t : List ℕ) → (answered (verdictOf (reading sh
 reader-accepts = Reader.reader-accepts
 
 -- then what was read is handed out.
-pub reader-hands-out : (sheet p t : List ℕ) (s : Progress) → ReadsInOrder sheet p t s → NoLoop (sheetRead s) → reading sheet p t ≡ readOutcome (Good (handed (s .seen))) (s .periodics) (s .triggers)
+pub reader-hands-out : (sheet p t : List ℕ) (s : Progress) → ReadsInOrder sheet p t s → NoLoop (sheetRead s) → reading sheet p t ≡ readOutcome (Good (s .seen .counts)) (s .tables .periodics) (s .tables .triggers)
 reader-hands-out = Reader.accepts-none
 
 -- A step's answer is number 8 and place k exactly when all that is tested before LOOP is in order and the loop of the lent rows is at k,
@@ -145,7 +145,7 @@ pub step-loops : (R : Rules) (q : Asked) (l : Lent) (v : Verdict) (a : Lent) →
 step-loops = Step.step-loops
 
 -- and number 0 and place 0 exactly when that is in order, there is no loop, and each request is within its limits.
-pub step-ok : (R : Rules) (q : Asked) (l : Lent) (v : Verdict) (a : Lent) → Outcome R q l v a → (answered v ≡ record { number = 0; place = 0 }) ↔ (Ordered R q l × NoLoop (sheetIn R) × AllFit (R .roleCount) q)
+pub step-ok : (R : Rules) (q : Asked) (l : Lent) (v : Verdict) (a : Lent) → Outcome R q l v a → (answered v ≡ record { number = 0; place = 0 }) ↔ (Ordered R q l × NoLoop (sheetIn R) × AllFit (R .counts .roles) q)
 step-ok = Step.step-ok
 
 -- From the empty start, over any run of accepted steps under one sheet, events and roles are the paper's: whatever stands in unused places of the tables that are lent to each, and whatever
@@ -166,7 +166,7 @@ pub step-hands-it-out : (R : Rules) (q : Asked) (l a : Lent) → Outcome R q l P
 step-hands-it-out = Exact.step-solves
 
 -- And exactly one buffer of 128 numbers of 16 bits holds it.
-pub one-buffer-holds-it : (R : Rules) → GoodOrder (sheetIn R) → NoLoop (sheetIn R) → (q : Asked) → AllFit (R .roleCount) q → (l : Lent) → Narrow 16 (l .waiting)
+pub one-buffer-holds-it : (R : Rules) → GoodOrder (sheetIn R) → NoLoop (sheetIn R) → (q : Asked) → AllFit (R .counts .roles) q → (l : Lent) → Narrow 16 (l .waiting)
     → ExactlyOne (λ (b : List ℕ). (length b ≡ EVENTS) × Narrow 16 b × SolvesFor R q l (eventsOf b))
 one-buffer-holds-it = Exact.one-buffer-served
 
@@ -183,7 +183,7 @@ reader-says = Back.reader-says
 -- So a refusal at k with a name other than LENGTH and LOOP says, and is given exactly when: lines 1 to k − 1 pass all their tests, and line k fails the test of that name and passes those
 -- before it; or it is the last and has no final 0A, FRAME; or there is no line k and no end frame, KIND.
 pub reader-refuses : (sheet p t : List ℕ) (name : Name) (k : ℕ) → ¬ (name ≡ LENGTH) → ¬ (name ≡ LOOP)
-    → (reading sheet p t ≡ readOutcome (Bad (record { name = name; place = k })) p t)
+    → (reading sheet p t ≡ readOutcome (Refused (refusal name k)) p t)
     ↔ (LengthsFit sheet p t × RefusedAt (linesIn sheet) (restIn sheet) name k)
 reader-refuses = Back.reader-refuses
 
@@ -192,13 +192,13 @@ pub reader-whole : (sheet p t : List ℕ) → ((s : Progress) × ReadsInOrder sh
 reader-whole = Back.reader-whole
 
 -- On success the role count is the header's, the counts are those of the frames, and each table holds the rows of its frames in sheet order and is otherwise zero.
-pub reader-tables : (sheet p t : List ℕ) (r : Read) (p′ t′ : List ℕ) → reading sheet p t ≡ readOutcome (Good r) p′ t′
+pub reader-tables : (sheet p t : List ℕ) (r : Counts) (p′ t′ : List ℕ) → reading sheet p t ≡ readOutcome (Good r) p′ t′
     → (r ≡ countsOf (framesIn sheet)) × (p′ ≡ periodicTable (framesIn sheet)) × (t′ ≡ triggerTable (framesIn sheet))
 reader-tables = Back.reader-tables
 
 -- And what the reader accepts, the judge of a step passes.
-pub reading-passes : (sheet p t : List ℕ) (r : Read) (p′ t′ : List ℕ) → reading sheet p t ≡ readOutcome (Good r) p′ t′
-    → judgeTables (sheetOf (r .roles) (r .periodics) (r .triggers) p′ t′) ≡ Pass
+pub reading-passes : (sheet p t : List ℕ) (r : Counts) (p′ t′ : List ℕ) → reading sheet p t ≡ readOutcome (Good r) p′ t′
+    → judgeTables (sheetIn (rules r p′ t′)) ≡ Pass
 reading-passes = Accepted.reading-passes
 
 -- ==== THE DAY: an input prints exactly one thing, the refusal, or the lines of the paper's canonical execution model of its sheet and its tape (`Prints`).
@@ -224,7 +224,7 @@ day-ok = Day.day-ok
 
 -- It is another number n and place k exactly when the input is refused with that number and that place.
 pub day-refuses : (input out : List ℕ) (r : Printed) (out′ : List ℕ) → length out ≡ OUTPUT-BYTES → DayOutcome input out r out′
-    → (n k : ℕ) → 1 ≤ n → (answered (r .verdict) ≡ record { number = n; place = k }) ↔ ((x : Refusal) × (opening input ≡ refuses x) × (numberOf (x .name) ≡ n) × (x .place ≡ k))
+    → (n k : ℕ) → 1 ≤ n → (answered (r .verdict) ≡ record { number = n; place = k }) ↔ ((x : Refusal) × (opening input ≡ refused x) × (numberOf (x .name) ≡ n) × (x .place ≡ k))
 day-refuses = Day.day-refuses
 
 -- With a buffer of another length it is number 1 (LENGTH) and place 0.
@@ -239,12 +239,12 @@ p-table = all-say
 
 -- A box that refuses everything: the answer to the worked sheet is 0 and 0, and its rows are handed out.
 pub not-all-refused : (answered (verdictOf (reading workedSheet noPeriodics noTriggers .answer)) ≡ record { number = 0; place = 0 })
-    × (reading workedSheet noPeriodics noTriggers ≡ readOutcome (Good (record { roles = 3; periodics = 1; triggers = 2 })) (worked .periodics) (worked .triggers))
+    × (reading workedSheet noPeriodics noTriggers ≡ readOutcome (Good (record { roles = 3; periodics = 1; triggers = 2 })) (worked .tables .periodics) (worked .tables .triggers))
 not-all-refused = (ap (λ (o : ReadOutcome). answered (verdictOf (o .answer))) (Shut.is-worked .read), Shut.is-worked .read)
 
 -- A test that passes everything: the answer to "enable 0 gives disable 0" is 8 and 0, and the tables are as they came.
 pub not-all-passed : (answered (verdictOf (reading looped noPeriodics noTriggers .answer)) ≡ record { number = 8; place = 0 })
-    × (reading looped noPeriodics noTriggers ≡ readOutcome (Bad (record { name = LOOP; place = 0 })) noPeriodics noTriggers)
+    × (reading looped noPeriodics noTriggers ≡ readOutcome (Refused (refusal LOOP 0)) noPeriodics noTriggers)
 not-all-passed = (ap (λ (o : ReadOutcome). answered (verdictOf (o .answer))) Looped.not-all-passed, Looped.not-all-passed)
 
 -- The first two minutes of the worked input can be run,
@@ -263,7 +263,7 @@ not-same-roles = Shut.not-same-roles
 pub not-same-instant : (R : Rules) (q : Asked) (l a : Lent) → Outcome R q l Pass a → a .instant ≡ suc (l .instant)
 not-same-instant R q l a o = o .passed refl .step .instant
 
--- A made-up event count: the count of the buffer that is handed out, which `count` (after/src) gives and a day prints, is that of whatever set solves the equation;
+-- A made-up event count: the count of the buffer that is handed out, which `count` (roles_after/src) gives and a day prints, is that of whatever set solves the equation;
 pub count-is-the-solutions : (R : Rules) (q : Asked) (l a : Lent) → Outcome R q l Pass a → (S : Events) → SolvesFor R q l S → countIn (eventsOf (a .events)) ≡ countIn S
 count-is-the-solutions R q l a o S s = sym (ap countIn (Exact.step-solves R q l a o .1 S s))
 

@@ -4,7 +4,7 @@
 -- theorem below its name is its contract, word for word. At the end are the hypotheses that some theorems have, the functions that ask something of their callers, and the exceptions.
 -- Assumes nothing.
 use mathlib.Core.Path.{_≡_, ap}
-use mathlib.Core.Bool.{Bool, _&&_, _||_}
+use mathlib.Core.Bool.{Bool, false, _&&_, _||_}
 use mathlib.Core.List.{List}
 use Prim.Native.Nat.{ℕ, _+_, _*_, _≤_, _<_}
 use lib.Dec.{eqb}
@@ -21,12 +21,14 @@ use Rattle.theory.specs.Laws.Exact.{exact}
 use Rattle.answers.specs.declared.Name.{Name}
 use Rattle.answers.specs.declared.Refusal.{Refusal}
 use Rattle.answers.specs.declared.Verdict.{Verdict}
-use Rattle.line_order.specs.declared.Tests.{Tests}
-use Rattle.answers.specs.Answers.{answered, numberOf}
-use Rattle.line_order.specs.Order.{inOrder}
+use Rattle.line_readers.specs.declared.Tests.{Tests}
+use Rattle.answers.specs.Answers.{andThen, answered, numberOf, refusal, refuse}
+use Rattle.line_readers.specs.Order.{inOrder}
 use Rattle.tables.specs.Asked.{flat, requestAt}
 use Rattle.tables.specs.Buffers.{bit, eventsOf, rolesOf}
-use Rattle.tables.specs.Layout.{TRIGGER-BYTES, byteAt, periodicAt, sheetOf, triggerAt, triggersOf, two}
+use Rattle.tables.specs.declared.Counts.{Counts}
+use Rattle.tables.specs.Layout.{TRIGGER-BYTES, byteAt, four, periodicAt, sheetOf, triggerAt, triggersOf, two}
+use Rattle.tables.specs.Lent.{rules, sheetIn, Lent, lent}
 use Rattle.periodics.specs.declared.PeriodicRow.{PeriodicRow}
 use Rattle.periodics.specs.Rows.{periodicOf}
 use Rattle.masks.specs.Joins.{joinedWhere, joins}
@@ -34,74 +36,66 @@ use Rattle.due.specs.Due.{dueAt}
 use Rattle.solver.specs.Solved.{Solved}
 use Rattle.waiting.specs.Waiting.{cleared, copied, placeOf}
 use Rattle.delays.specs.Delays.{triggerEntry}
-use Rattle.after.specs.After.{rolesBelow}
-use Rattle.event_rows.specs.Row.{Row, RowIs, reaches, whole}
-use Rattle.rows.specs.Rows.{Become, edgesOf, linked, wholeRows}
+use Rattle.roles_after.specs.After.{rolesBelow}
+use Rattle.reach_row.specs.Row.{Row, RowIs, reaches, whole}
+use Rattle.reach_rows.specs.Rows.{Become, RowsAre, edgesOf, linked, wholeRows}
 use Rattle.edges.specs.Drawing.{addedFrom, drawsBelow, tailOf}
-use Rattle.loops.specs.declared.Found.{Found}
 use Rattle.loops.specs.Tested.{tested}
-use Rattle.row_judge.specs.Judge.{judgeRows, rules}
-use Rattle.judge.specs.Judged.{judged, loopVerdict}
+use Rattle.row_judge.specs.Judge.{judgeRows}
+use Rattle.table_judge.specs.Judged.{judged, loopJudged}
 use Rattle.text.specs.Framed.{framed}
 use Rattle.text.specs.Lines.{lines, span}
 use Rattle.frames.specs.Frame.{bytesOf, checked}
 use Rattle.prints.specs.Print.{lineOf}
 use Rattle.printed_frames.specs.Frames.{minuteFrame, refusalLine}
-use Rattle.walks.specs.Walks.{goes}
 use Rattle.periodic_frames.specs.Row.{periodicRow}
 use Rattle.trigger_frames.specs.Row.{triggerRow}
 use Rattle.kinds.specs.declared.Stage.{Stage}
 use Rattle.kinds.specs.Kinds.{mayStand, sized}
 use Rattle.row_counts.specs.Counts.{countsAgree, roomFor}
 use Rattle.fields.specs.Fields.{frameFits}
-use Rattle.line_tests.specs.declared.Seen.{Seen}
-use Rattle.line_tests.specs.Judge.{judgeLine}
-use Rattle.line_acts.specs.Acts.{after, progress}
-use Rattle.lines.specs.declared.Taken.{Taken}
-use Rattle.lines.specs.Took.{Same}
-use Rattle.lines.specs.Lines.{fresh, reads}
-use Rattle.readings.specs.declared.Reading.{Reading}
-use Rattle.readings.specs.Readings.{verdictOf}
-use Rattle.hand_out.specs.Out.{afterLines, readOutcome}
-use Rattle.sheet.specs.Sheet.{reading}
+use Rattle.sheet_tests.specs.declared.Seen.{Seen}
+use Rattle.sheet_tests.specs.Judge.{judgeLine}
+use Rattle.sheet_acts.specs.Acts.{after, progress}
+use Rattle.reader.specs.declared.Reading.{Reading}
+use Rattle.reader.specs.Answer.{verdictOf}
+use Rattle.reader.specs.Out.{readOutcome}
+use Rattle.reader.specs.Reading.{reading}
 use Rattle.requests.specs.declared.Request.{Request}
 use Rattle.requests.specs.Asked.{requestOf}
 use Rattle.requests.specs.Requests.{fits, judgeRequests}
 use Rattle.asked.specs.Adds.{givenEntry, waitEntry}
-use Rattle.order.specs.Order.{exactLengths, judgeFirst}
-use Rattle.minute.specs.Minute.{Acted}
-use Rattle.step.specs.Outcome.{Lent, Outcome, lent}
+use Rattle.step_tests.specs.Order.{exactLengths, judgeFirst}
+use Rattle.instant.specs.Acted.{Acted}
+use Rattle.step.specs.Outcome.{Outcome}
 use Rattle.entry.specs.Listed.{listed}
 use Rattle.tape_tests.specs.declared.Heard.{Heard}
 use Rattle.tape_frames.specs.Frame.{askedIn, instantOf}
-use Rattle.tape_tests.specs.Tape.{judgeTape}
+use Rattle.tape_tests.specs.Tests.{judgeTape}
 use Rattle.tape.specs.Took.{took}
 use Rattle.tape.specs.Tape.{tapeRead}
-use Rattle.split.specs.Parted.{parted}
-use Rattle.batches.specs.Batch.{noneYet, rest, takes}
-use Rattle.openings.specs.Planned.{opened, planned}
+use Rattle.day_split.specs.Parted.{parted}
+use Rattle.tape_batches.specs.Batch.{noneYet, rest, takes}
+use Rattle.day_input.specs.Planned.{opened, planned}
 use Rattle.day_minute.specs.Minute.{MinuteOutcome}
-use Rattle.days.specs.Day.{DayOutcome}
-use Rattle.lines.specs.Took
+use Rattle.day_print.specs.Day.{DayOutcome}
 use Rattle.periodics.specs.Laws.Exact as periodics
 use Rattle.solver.specs.Laws.Exact as solver
-use Rattle.event_rows.specs.Laws.Exact as EventRows
-use Rattle.rows.specs.Laws.Exact as Rows
+use Rattle.reach_row.specs.Laws.Exact as reach-row
+use Rattle.reach_rows.specs.Laws.Exact as reach-rows
 use Rattle.reach.specs.Laws.Exact as reach
 use Rattle.edges.specs.Laws.Exact as edges
-use Rattle.line_acts.specs.Laws.Exact as line-acts
-use Rattle.lines.specs.Laws.Exact as Lines
-use Rattle.hand_out.specs.Laws.Exact as hand-out
-use Rattle.sheet.specs.Laws.Exact as sheet
+use Rattle.sheet_acts.specs.Laws.Exact as sheet-acts
+use Rattle.reader.specs.Laws.Exact as reader
 use Rattle.requests.specs.Laws.Exact as requests
-use Rattle.minute.specs.Laws.Exact as minute
+use Rattle.instant.specs.Laws.Exact as act
 use Rattle.step.specs.Laws.Exact as Step
 use Rattle.entry.specs.Laws.Exact as entry
 use Rattle.tape_frames.specs.Laws.Exact as tape-frames
 use Rattle.tape.specs.Laws.Exact as tape
-use Rattle.openings.specs.Laws.Exact as openings
+use Rattle.day_input.specs.Laws.Exact as day-input
 use Rattle.day_minute.specs.Laws.Exact as day-minute
-use Rattle.days.specs.Laws.Exact as days
+use Rattle.day_print.specs.Laws.Exact as day-print
 
 -- any two answers that the contract C allows are equal
 abbrev pub Exact : {A : Type 0} → (A → Type 0) → Type 0
@@ -121,12 +115,30 @@ abbrev pub Exact₅ : {A B D E F : Type 0} → (A → B → D → E → F → Ty
 Exact₅ {A} {B} {D} {E} {F} C = (a a′ : A) (b b′ : B) (d d′ : D) (e e′ : E) (f f′ : F) → C a b d e f → C a′ b′ d′ e′ f′ → (a ≡ a′) × (b ≡ b′) × (d ≡ d′) × (e ≡ e′) × (f ≡ f′)
 
 -- what is lent to a step, part by part
+parts′ : (C : Lent → Type 0) → Exact C → Exact₄ (λ (t roles : ℕ) (w v : List ℕ). C (lent t roles w v))
+parts′ C x t t′ roles roles′ w w′ v v′ h h′ =
+    let e = x (lent t roles w v) (lent t′ roles′ w′ v′) h h′ in
+    (ap (λ (l : Lent). l .instant) e, ap (λ (l : Lent). l .roles) e, ap (λ (l : Lent). l .waiting) e, ap (λ (l : Lent). l .events) e)
+
+-- and after an answer
 parts : {A : Type 0} (C : A → Lent → Type 0) → Exact₂ C → Exact₅ (λ (r : A) (t roles : ℕ) (w v : List ℕ). C r (lent t roles w v))
 parts C x r r′ t t′ roles roles′ w w′ v v′ h h′ =
     let e = x r r′ (lent t roles w v) (lent t′ roles′ w′ v′) h h′ in
     (e .0, ap (λ (l : Lent). l .instant) (e .1), ap (λ (l : Lent). l .roles) (e .1), ap (λ (l : Lent). l .waiting) (e .1), ap (λ (l : Lent). l .events) (e .1))
 
 -- ---- answers
+
+-- answers::refusal_of
+pub answers-refusal-of : (name : Name) (place : ℕ) → Exact (λ r. r ≡ refusal name place)
+answers-refusal-of name place r r′ = exact
+
+-- answers::refuse
+pub answers-refuse : (name : Name) (place : ℕ) → Exact (λ r. r ≡ refuse name place)
+answers-refuse name place r r′ = exact
+
+-- answers::and_then
+pub answers-and-then : (first later : Verdict) → Exact (λ r. r ≡ andThen first later)
+answers-and-then first later r r′ = exact
 
 -- answers::number_of
 pub answers-number-of : (name : Name) → Exact (λ r. r ≡ numberOf name)
@@ -136,29 +148,15 @@ answers-number-of name r r′ = exact
 pub answers-answer-of : (verdict : Verdict) → Exact (λ r. r ≡ answered verdict)
 answers-answer-of verdict r r′ = exact
 
--- ---- basic
-
--- basic::both
-pub basic-both : (a b : Bool) → Exact (λ r. r ≡ (a && b))
-basic-both a b r r′ = exact
-
--- basic::either
-pub basic-either : (a b : Bool) → Exact (λ r. r ≡ (a || b))
-basic-either a b r r′ = exact
-
--- basic::one
-pub basic-one : (t : Bool) → Exact (λ r. (r ≡ one t) × (r < 2))
-basic-one t r r′ h h′ = exact (h .0) (h′ .0)
-
--- basic::conflict
-pub basic-conflict : (e : ℕ) → Exact (λ r. r ≡ conf e)
-basic-conflict e r r′ = exact
-
 -- ---- widths
 
 -- widths::wide
 pub widths-wide : (x : ℕ) → Exact (λ r. r ≡ x)
 widths-wide x r r′ = exact
+
+-- widths::pair
+pub widths-pair : (high low : ℕ) → Exact (λ r. (r ≡ 256 * high + low) × (r < 65536))
+widths-pair high low r r′ h h′ = exact (h .0) (h′ .0)
 
 -- widths::index
 pub widths-index : (x : ℕ) → Exact (λ r. r ≡ x)
@@ -171,6 +169,16 @@ widths-row-index row r r′ = exact
 -- widths::long
 pub widths-long : (x : ℕ) → Exact (λ r. r ≡ x)
 widths-long x r r′ = exact
+
+-- widths::one
+pub widths-one : (t : Bool) → Exact (λ r. (r ≡ one t) × (r < 2))
+widths-one t r r′ h h′ = exact (h .0) (h′ .0)
+
+-- ---- conflicts
+
+-- conflicts::conflict
+pub conflicts-conflict : (e : ℕ) → Exact (λ r. r ≡ conf e)
+conflicts-conflict e r r′ = exact
 
 -- ---- tables
 
@@ -206,15 +214,15 @@ triggers-condition triggers i j r r′ = exact
 pub triggers-counts-at : (triggers : List ℕ) (i : ℕ) → Exact (λ r. ((n : ℕ) → r ≡ counts (triggersOf n triggers) i))
 triggers-counts-at triggers i r r′ h h′ = exact (h 0) (h′ 0)
 
--- ---- limits
+-- ---- periodic_limits
 
--- limits::of_roles
-pub limits-of-roles : (roles e : ℕ) → Exact (λ r. r ≡ ofRoles roles e)
-limits-of-roles roles e r r′ = exact
+-- periodic_limits::of_roles
+pub periodic-limits-of-roles : (roles e : ℕ) → Exact (λ r. r ≡ ofRoles roles e)
+periodic-limits-of-roles roles e r r′ = exact
 
--- limits::periodic_fits
-pub limits-periodic-fits : (w : PeriodicRow) (roles : ℕ) → Exact (λ r. r ≡ periodicFits roles (periodicOf w))
-limits-periodic-fits w roles r r′ = exact
+-- periodic_limits::periodic_fits
+pub periodic-limits-periodic-fits : (w : PeriodicRow) (roles : ℕ) → Exact (λ r. r ≡ periodicFits roles (periodicOf w))
+periodic-limits-periodic-fits w roles r r′ = exact
 
 -- ---- trigger_limits
 
@@ -222,109 +230,41 @@ limits-periodic-fits w roles r r′ = exact
 pub trigger-limits-trigger-fits : (table : List ℕ) (i roles : ℕ) → Exact (λ r. r ≡ triggerFits roles (triggerAt table i))
 trigger-limits-trigger-fits table i roles r r′ = exact
 
--- ---- masks
+-- ---- reach_row
 
--- masks::number
-pub masks-number : (buffer : List ℕ) (i : ℕ) → Exact (λ r. r ≡ getD buffer i 0)
-masks-number buffer i r r′ = exact
+-- reach_row::none
+pub reach-row-none : Exact (λ r. RowIs (λ _. false) r)
+reach-row-none = reach-row.none-exact
 
--- masks::join_where
-pub masks-join-where : (buffer : List ℕ) (on : Bool) (at p : ℕ) → Exact (λ buffer′. buffer′ ≡ joinedWhere buffer (record { on = on; at = at; priority = p }))
-masks-join-where buffer on at p l l′ = exact
+-- reach_row::reaches
+pub reach-row-reaches : (row : Row) (b : ℕ) → Exact (λ r. r ≡ reaches row b)
+reach-row-reaches row b r r′ = exact
 
--- ---- live
+-- reach_row::with
+pub reach-row-with : (row : Row) (b : ℕ) (on : Bool) → whole row → Exact (λ row′. ((f : ℕ → Bool) → RowIs f row → RowIs (λ x. f x || (on && eqb b x)) row′))
+reach-row-with row b on h r r′ = reach-row.with-exact row b on r r′ h
 
--- live::live
-pub live-live : (events : List ℕ) (e : ℕ) → Exact (λ r. r ≡ nonblocked (eventsOf events) (eventsOf events) e)
-live-live events e r r′ = exact
+-- reach_row::joined
+pub reach-row-joined : (x y : Row) → whole x → whole y → Exact (λ r. ((f g : ℕ → Bool) → RowIs f x → RowIs g y → RowIs (λ b. f b || g b) r))
+reach-row-joined x y h k r r′ = reach-row.joined-exact x y r r′ h k
 
--- ---- roles
+-- reach_row::some
+pub reach-row-some : (row : Row) → Exact (λ r. r ≡ anyBelow EVENTS (reaches row))
+reach-row-some row r r′ = exact
 
--- roles::role_on
-pub roles-role-on : (roles r : ℕ) → Exact (λ on. on ≡ bit roles r)
-roles-role-on roles r on on′ = exact
+-- ---- reach_rows
 
--- ---- bodies
+-- reach_rows::none
+pub reach-rows-none : Exact (λ r. RowsAre (λ _ _. false) r)
+reach-rows-none = reach-rows.none-exact
 
--- bodies::allows
-pub bodies-allows : (triggers : List ℕ) (i roles : ℕ) → Exact (λ r. r ≡ allows (rolesOf roles) (triggerAt triggers i))
-bodies-allows triggers i roles r r′ = exact
+-- reach_rows::leads
+pub reach-rows-leads : (rows : List Row) (a b : ℕ) → Exact (λ r. r ≡ edgesOf rows a b)
+reach-rows-leads rows a b r r′ = exact
 
--- bodies::met
-pub bodies-met : (events triggers : List ℕ) (i : ℕ) → Exact (λ r. r ≡ met (eventsOf events) (eventsOf events) (triggerAt triggers i))
-bodies-met events triggers i r r′ = exact
-
--- ---- due
-
--- due::add_due
-pub due-add-due : (events periodics : List ℕ) (n t : ℕ) → Exact (λ events′. events′ ≡ joins events n (dueAt periodics t))
-due-add-due events periodics n t l l′ = exact
-
--- ---- solver
-
--- solver::solve
-pub solver-solve : (events levels triggers : List ℕ) (n roles : ℕ) → (roleCount periodicCount : ℕ) (periodics : List ℕ) → length events ≡ EVENTS → GoodOrder (sheetOf roleCount periodicCount n periodics triggers) → Levels (sheetOf roleCount periodicCount n periodics triggers) (byteAt levels)
-    → Exact (λ events′. Solved levels triggers n roles events events′)
-solver-solve events levels triggers n roles roleCount periodicCount periodics size good rule events′ other = solver.solve-exact levels triggers n roles events events′ other roleCount periodicCount periodics size good rule
-
--- ---- waiting
-
--- waiting::place
-pub waiting-place : (t d e : ℕ) → Exact (λ r. r ≡ placeOf (t + d) e)
-waiting-place t d e r r′ = exact
-
--- waiting::copy_row
-pub waiting-copy-row : (events waiting : List ℕ) (t : ℕ) → Exact (λ events′. events′ ≡ copied events waiting t)
-waiting-copy-row events waiting t l l′ = exact
-
--- waiting::clear_row
-pub waiting-clear-row : (waiting : List ℕ) (t : ℕ) → Exact (λ waiting′. waiting′ ≡ cleared waiting t)
-waiting-clear-row waiting t l l′ = exact
-
--- ---- delays
-
--- delays::wait_triggers
-pub delays-wait-triggers : (waiting events triggers : List ℕ) (n roles t : ℕ)
-    → Exact (λ waiting′. waiting′ ≡ joins waiting n (λ i. triggerEntry (rolesOf roles) (eventsOf events) t (triggerAt triggers i)))
-delays-wait-triggers waiting events triggers n roles t l l′ = exact
-
--- ---- after
-
--- after::roles_after
-pub after-roles-after : (roles : ℕ) (events : List ℕ) → Exact (λ r. r ≡ rolesBelow (rolesOf roles) (eventsOf events) ROLES)
-after-roles-after roles events r r′ = exact
-
--- after::count
-pub after-count : (events : List ℕ) → Exact (λ r. r ≡ countBelow EVENTS (nonblocked (eventsOf events) (eventsOf events)))
-after-count events r r′ = exact
-
--- ---- event_rows
-
--- event_rows::reaches
-pub event-rows-reaches : (row : Row) (b : ℕ) → Exact (λ r. r ≡ reaches row b)
-event-rows-reaches row b r r′ = exact
-
--- event_rows::with
-pub event-rows-with : (row : Row) (b : ℕ) (on : Bool) → whole row → Exact (λ row′. ((f : ℕ → Bool) → RowIs f row → RowIs (λ x. f x || (on && eqb b x)) row′))
-event-rows-with row b on h r r′ = EventRows.with-exact row b on r r′ h
-
--- event_rows::joined
-pub event-rows-joined : (x y : Row) → whole x → whole y → Exact (λ r. ((f g : ℕ → Bool) → RowIs f x → RowIs g y → RowIs (λ b. f b || g b) r))
-event-rows-joined x y h k r r′ = EventRows.joined-exact x y r r′ h k
-
--- event_rows::some
-pub event-rows-some : (row : Row) → Exact (λ r. r ≡ anyBelow EVENTS (reaches row))
-event-rows-some row r r′ = exact
-
--- ---- rows
-
--- rows::leads
-pub rows-leads : (rows : List Row) (a b : ℕ) → Exact (λ r. r ≡ edgesOf rows a b)
-rows-leads rows a b r r′ = exact
-
--- rows::link
-pub rows-link : (rows : List Row) (a b : ℕ) (on : Bool) → wholeRows rows → Exact (λ rows′. Become (linked on a b) rows rows′)
-rows-link rows a b on h r r′ = Rows.link-exact rows a b on r r′ h
+-- reach_rows::link
+pub reach-rows-link : (rows : List Row) (a b : ℕ) (on : Bool) → wholeRows rows → Exact (λ rows′. Become (linked on a b) rows rows′)
+reach-rows-link rows a b on h r r′ = reach-rows.link-exact rows a b on r r′ h
 
 -- ---- reach
 
@@ -351,19 +291,18 @@ loops-loop-test triggers n r r′ = exact
 -- ---- row_judge
 
 -- row_judge::rows_judged
-pub row-judge-rows-judged : (roles p t : ℕ) (periodics triggers : List ℕ) → Exact (λ r. r ≡ judgeRows (sheetOf roles p t periodics triggers))
-row-judge-rows-judged roles p t periodics triggers r r′ = exact
+pub row-judge-rows-judged : (counts : Counts) (periodics triggers : List ℕ) → Exact (λ r. r ≡ judgeRows (sheetIn (rules counts periodics triggers)))
+row-judge-rows-judged counts periodics triggers r r′ = exact
 
--- ---- judge
+-- ---- table_judge
 
--- judge::loop_verdict
-pub judge-loop-verdict : (found : Found) → Exact (λ r. r ≡ loopVerdict found)
-judge-loop-verdict found r r′ = exact
+-- table_judge::loop_judged
+pub table-judge-loop-judged : (triggers : List ℕ) (n : ℕ) → Exact (λ r. r ≡ loopJudged (triggersOf n triggers))
+table-judge-loop-judged triggers n r r′ = exact
 
--- judge::judge
-pub judge-judge : (roles «periodic_count» «trigger_count» : ℕ) (periodics triggers : List ℕ)
-    → Exact (λ r. r ≡ judged (sheetOf roles «periodic_count» «trigger_count» periodics triggers))
-judge-judge roles «periodic_count» «trigger_count» periodics triggers r r′ = exact
+-- table_judge::judge
+pub table-judge-judge : (counts : Counts) (periodics triggers : List ℕ) → Exact (λ r. r ≡ judged (sheetIn (rules counts periodics triggers)))
+table-judge-judge counts periodics triggers r r′ = exact
 
 -- ---- text
 
@@ -385,9 +324,23 @@ frames-byte-at line i r r′ = exact
 pub frames-count : (line : List ℕ) → Exact (λ r. r ≡ length (bytesOf line))
 frames-count line r r′ = exact
 
+-- frames::two_at
+pub frames-two-at : (line : List ℕ) (i : ℕ) → Exact (λ r. r ≡ two (bytesOf line) i)
+frames-two-at line i r r′ = exact
+
+-- frames::four_at
+pub frames-four-at : (line : List ℕ) (i : ℕ) → Exact (λ r. r ≡ four (bytesOf line) i)
+frames-four-at line i r r′ = exact
+
 -- frames::is_checked
 pub frames-is-checked : (line : List ℕ) → Exact (λ r. r ≡ checked (bytesOf line))
 frames-is-checked line r r′ = exact
+
+-- ---- line_readers
+
+-- line_readers::in_order
+pub line-readers-in-order : (tests : Tests) (name : Name) (place : ℕ) → Exact (λ r. r ≡ inOrder tests name place)
+line-readers-in-order tests name place r r′ = exact
 
 -- ---- prints
 
@@ -439,51 +392,104 @@ row-counts-end-agrees line k periodics triggers r r′ = exact
 pub fields-frame-fits : (k roles : ℕ) (line : List ℕ) → Exact (λ r. r ≡ frameFits k roles (bytesOf line))
 fields-frame-fits k roles line r r′ = exact
 
--- ---- line_order
+-- ---- sheet_tests
 
--- line_order::in_order
-pub line-order-in-order : (tests : Tests) (name : Name) (place : ℕ) → Exact (λ r. r ≡ inOrder tests name place)
-line-order-in-order tests name place r r′ = exact
+-- sheet_tests::line_judged
+pub sheet-tests-line-judged : (line : List ℕ) (s : Seen) (place : ℕ) → Exact (λ r. r ≡ judgeLine place s line)
+sheet-tests-line-judged line s place r r′ = exact
 
--- ---- line_tests
+-- ---- sheet_acts
 
--- line_tests::line_judged
-pub line-tests-line-judged : (line : List ℕ) (s : Seen) (place : ℕ) → Exact (λ r. r ≡ judgeLine place s line)
-line-tests-line-judged line s place r r′ = exact
-
--- ---- line_acts
-
--- line_acts::act
-pub line-acts-act : (line : List ℕ) (s : Seen) (periodics triggers : List ℕ)
+-- sheet_acts::act
+pub sheet-acts-act : (line : List ℕ) (s : Seen) (periodics triggers : List ℕ)
     → Exact₃ (λ r periodics′ triggers′. progress r periodics′ triggers′ ≡ after (progress s periodics triggers) (bytesOf line))
-line-acts-act = line-acts.act-exact
+sheet-acts-act = sheet-acts.act-exact
 
--- ---- lines
+-- ---- reader
 
--- lines::read_lines
-pub lines-read-lines : (sheet periodics triggers : List ℕ) (r r₂ : Taken) (periodics′ periodics₂ triggers′ triggers₂ : List ℕ)
-    → Took.took r periodics′ triggers′ ≡ reads (goes (progress fresh periodics triggers)) (lines sheet) → Took.took r₂ periodics₂ triggers₂ ≡ reads (goes (progress fresh periodics triggers)) (lines sheet)
-    → Same r r₂ periodics′ periodics₂ triggers′ triggers₂
-lines-read-lines = Lines.read-lines-exact
+-- reader::verdict_of
+pub reader-verdict-of : (reading : Reading) → Exact (λ r. r ≡ verdictOf reading)
+reader-verdict-of reading r r′ = exact
 
--- ---- readings
+-- reader::read_sheet
+pub reader-read-sheet : (sheet periodics triggers : List ℕ) → Exact₃ (λ r periodics′ triggers′. readOutcome r periodics′ triggers′ ≡ reading sheet periodics triggers)
+reader-read-sheet = reader.read-sheet-exact
 
--- readings::verdict_of
-pub readings-verdict-of : (reading : Reading) → Exact (λ r. r ≡ verdictOf reading)
-readings-verdict-of reading r r′ = exact
+-- ---- masks
 
--- ---- hand_out
+-- masks::number
+pub masks-number : (buffer : List ℕ) (i : ℕ) → Exact (λ r. r ≡ getD buffer i 0)
+masks-number buffer i r r′ = exact
 
--- hand_out::hand_out
-pub hand-out-hand-out : (s : Seen) (per trg periodics triggers : List ℕ)
-    → Exact₃ (λ r periodics′ triggers′. readOutcome r periodics′ triggers′ ≡ afterLines (progress s per trg) periodics triggers)
-hand-out-hand-out s per trg = hand-out.hand-out-exact (progress s per trg)
+-- masks::join_where
+pub masks-join-where : (buffer : List ℕ) (on : Bool) (at p : ℕ) → Exact (λ buffer′. buffer′ ≡ joinedWhere buffer (record { on = on; at = at; priority = p }))
+masks-join-where buffer on at p l l′ = exact
 
--- ---- sheet
+-- ---- nonblocked
 
--- sheet::read_sheet
-pub sheet-read-sheet : (sheet periodics triggers : List ℕ) → Exact₃ (λ r periodics′ triggers′. readOutcome r periodics′ triggers′ ≡ reading sheet periodics triggers)
-sheet-read-sheet = sheet.read-sheet-exact
+-- nonblocked::live
+pub nonblocked-live : (events : List ℕ) (e : ℕ) → Exact (λ r. r ≡ nonblocked (eventsOf events) (eventsOf events) e)
+nonblocked-live events e r r′ = exact
+
+-- ---- roles
+
+-- roles::role_on
+pub roles-role-on : (roles r : ℕ) → Exact (λ on. on ≡ bit roles r)
+roles-role-on roles r on on′ = exact
+
+-- ---- bodies
+
+-- bodies::allows
+pub bodies-allows : (triggers : List ℕ) (i roles : ℕ) → Exact (λ r. r ≡ allows (rolesOf roles) (triggerAt triggers i))
+bodies-allows triggers i roles r r′ = exact
+
+-- bodies::met
+pub bodies-met : (events triggers : List ℕ) (i : ℕ) → Exact (λ r. r ≡ met (eventsOf events) (eventsOf events) (triggerAt triggers i))
+bodies-met events triggers i r r′ = exact
+
+-- ---- due
+
+-- due::add_due
+pub due-add-due : (events periodics : List ℕ) (n t : ℕ) → Exact (λ events′. events′ ≡ joins events n (dueAt periodics t))
+due-add-due events periodics n t l l′ = exact
+
+-- ---- solver
+
+-- solver::solve
+pub solver-solve : (events levels triggers : List ℕ) (n roles : ℕ) → (roleCount periodicCount : ℕ) (periodics : List ℕ) → length events ≡ EVENTS → GoodOrder (sheetOf roleCount periodicCount n periodics triggers) → Levels (sheetOf roleCount periodicCount n periodics triggers) (byteAt levels)
+    → Exact (λ events′. Solved levels triggers n roles events events′)
+solver-solve events levels triggers n roles roleCount periodicCount periodics size good rule events′ other = solver.solve-exact levels triggers n roles events events′ other roleCount periodicCount periodics size good rule
+
+-- ---- waiting
+
+-- waiting::place
+pub waiting-place : (t d e : ℕ) → Exact (λ r. r ≡ placeOf (t + d) e)
+waiting-place t d e r r′ = exact
+
+-- waiting::copy_row
+pub waiting-copy-row : (events waiting : List ℕ) (t : ℕ) → Exact (λ events′. events′ ≡ copied events waiting t)
+waiting-copy-row events waiting t l l′ = exact
+
+-- waiting::clear_row
+pub waiting-clear-row : (waiting : List ℕ) (t : ℕ) → Exact (λ waiting′. waiting′ ≡ cleared waiting t)
+waiting-clear-row waiting t l l′ = exact
+
+-- ---- delays
+
+-- delays::wait_triggers
+pub delays-wait-triggers : (waiting events triggers : List ℕ) (n roles t : ℕ)
+    → Exact (λ waiting′. waiting′ ≡ joins waiting n (λ i. triggerEntry (rolesOf roles) (eventsOf events) t (triggerAt triggers i)))
+delays-wait-triggers waiting events triggers n roles t l l′ = exact
+
+-- ---- roles_after
+
+-- roles_after::roles_after
+pub roles-after-roles-after : (roles : ℕ) (events : List ℕ) → Exact (λ r. r ≡ rolesBelow (rolesOf roles) (eventsOf events) ROLES)
+roles-after-roles-after roles events r r′ = exact
+
+-- roles_after::count
+pub roles-after-count : (events : List ℕ) → Exact (λ r. r ≡ countBelow EVENTS (nonblocked (eventsOf events) (eventsOf events)))
+roles-after-count events r r′ = exact
 
 -- ---- requests
 
@@ -509,32 +515,33 @@ asked-add-asked events asked n l l′ = exact
 pub asked-wait-asked : (waiting asked : List ℕ) (n t : ℕ) → Exact (λ waiting′. waiting′ ≡ joins waiting n (λ k. waitEntry t (requestAt asked k)))
 asked-wait-asked waiting asked n t l l′ = exact
 
--- ---- order
+-- ---- instant
 
--- order::judge_first
-pub order-judge-first : (periodics triggers waiting events t n : ℕ) → Exact (λ r. r ≡ judgeFirst (exactLengths periodics triggers waiting events) t n)
-order-judge-first periodics triggers waiting events t n r r′ = exact
+-- instant::act
+pub instant-act : (counts : Counts) (periodics triggers asked : List ℕ) (m : ℕ) (levels : List ℕ) (instant enabled : ℕ) (waiting events : List ℕ) → (roleCount : ℕ) → length events ≡ EVENTS → GoodOrder (sheetOf roleCount (counts .periodics) (counts .triggers) periodics triggers) → Levels (sheetOf roleCount (counts .periodics) (counts .triggers) periodics triggers) (byteAt levels)
+    → Exact₄ (λ instant′ enabled′ waiting′ events′. Acted (rules counts periodics triggers) (flat asked m) levels (lent instant enabled waiting events) (lent instant′ enabled′ waiting′ events′))
+instant-act counts periodics triggers asked m levels instant enabled waiting events roleCount size good rule =
+    parts′ _ (λ a a′. act.act-exact (rules counts periodics triggers) (flat asked m) levels (lent instant enabled waiting events) a a′ roleCount size good rule)
 
--- ---- minute
+-- ---- step_tests
 
--- minute::act
-pub minute-act : («periodic_count» «trigger_count» : ℕ) (periodics triggers asked : List ℕ) (m : ℕ) (levels : List ℕ) (instant enabled : ℕ) (waiting events : List ℕ) → (roleCount : ℕ) → length events ≡ EVENTS → GoodOrder (sheetOf roleCount «periodic_count» «trigger_count» periodics triggers) → Levels (sheetOf roleCount «periodic_count» «trigger_count» periodics triggers) (byteAt levels)
-    → Exact₄ (λ instant′ enabled′ waiting′ events′. Acted «periodic_count» «trigger_count» periodics triggers (flat asked m) levels instant enabled waiting events instant′ enabled′ waiting′ events′)
-minute-act «periodic_count» «trigger_count» periodics triggers asked m levels instant enabled waiting events roleCount = minute.act-exact roleCount «periodic_count» «trigger_count» periodics triggers (flat asked m) levels instant enabled waiting events
+-- step_tests::judge_first
+pub step-tests-judge-first : (periodics triggers waiting events t n : ℕ) → Exact (λ r. r ≡ judgeFirst (exactLengths periodics triggers waiting events) t n)
+step-tests-judge-first periodics triggers waiting events t n r r′ = exact
 
 -- ---- step
 
 -- step::step
-pub step-step : (roles «periodic_count» «trigger_count» : ℕ) (periodics triggers asked : List ℕ) (n instant enabled : ℕ) (waiting events : List ℕ)
-    → Exact₅ (λ r instant′ enabled′ waiting′ events′. Outcome (rules roles «periodic_count» «trigger_count» periodics triggers) (flat asked n) (lent instant enabled waiting events) r (lent instant′ enabled′ waiting′ events′))
-step-step roles «periodic_count» «trigger_count» periodics triggers asked n instant enabled waiting events = parts _ (Step.step-exact (rules roles «periodic_count» «trigger_count» periodics triggers) (flat asked n) (lent instant enabled waiting events))
+pub step-step : (counts : Counts) (periodics triggers asked : List ℕ) (n instant enabled : ℕ) (waiting events : List ℕ)
+    → Exact₅ (λ r instant′ enabled′ waiting′ events′. Outcome (rules counts periodics triggers) (flat asked n) (lent instant enabled waiting events) r (lent instant′ enabled′ waiting′ events′))
+step-step counts periodics triggers asked n instant enabled waiting events = parts _ (Step.step-exact (rules counts periodics triggers) (flat asked n) (lent instant enabled waiting events))
 
 -- ---- entry
 
 -- entry::step_requests
-pub entry-step-requests : (roles «periodic_count» «trigger_count» : ℕ) (periodics triggers : List ℕ) (requests : List Request) (instant enabled : ℕ) (waiting events : List ℕ)
-    → Exact₅ (λ r instant′ enabled′ waiting′ events′. Outcome (rules roles «periodic_count» «trigger_count» periodics triggers) (listed requests) (lent instant enabled waiting events) r (lent instant′ enabled′ waiting′ events′))
-entry-step-requests roles «periodic_count» «trigger_count» periodics triggers requests instant enabled waiting events = parts _ (entry.step-requests-exact (rules roles «periodic_count» «trigger_count» periodics triggers) requests (lent instant enabled waiting events))
+pub entry-step-requests : (counts : Counts) (periodics triggers : List ℕ) (requests : List Request) (instant enabled : ℕ) (waiting events : List ℕ)
+    → Exact₅ (λ r instant′ enabled′ waiting′ events′. Outcome (rules counts periodics triggers) (listed requests) (lent instant enabled waiting events) r (lent instant′ enabled′ waiting′ events′))
+entry-step-requests counts periodics triggers requests instant enabled waiting events = parts _ (entry.step-requests-exact (rules counts periodics triggers) requests (lent instant enabled waiting events))
 
 -- ---- tape_frames
 
@@ -558,73 +565,68 @@ tape-tests-tape-judged line roles s place r r′ = exact
 pub tape-read-tape : (tape : List ℕ) (roles before : ℕ) → Exact (λ r. took r ≡ tapeRead roles before tape)
 tape-read-tape = tape.read-tape-exact
 
--- ---- split
+-- ---- tape_batches
 
--- split::split
-pub split-split : (input : List ℕ) → Exact (λ r. (r ≡ parted 0 0 (lines input)) × ((r .bytes ≤ length input) × (r .lines ≤ length input)))
-split-split input r r′ h h′ = exact (h .0) (h′ .0)
-
--- ---- batches
-
--- batches::take_batch
-pub batches-take-batch : (tape : List ℕ) (at t : ℕ)
+-- tape_batches::take_batch
+pub tape-batches-take-batch : (tape : List ℕ) (at t : ℕ)
     → Exact (λ r. (r ≡ takes t (lines (drop at tape)) (noneYet at)) × (lines (drop (r .next) tape) ≡ rest t (lines (drop at tape)) 0))
-batches-take-batch tape at t r r′ h h′ = exact (h .0) (h′ .0)
+tape-batches-take-batch tape at t r r′ h h′ = exact (h .0) (h′ .0)
 
--- ---- openings
+-- ---- day_split
 
--- openings::open
-pub openings-open : (input : List ℕ) → Exact₃ (λ r periodics′ triggers′. opened r periodics′ triggers′ ≡ planned input)
-openings-open = openings.open-exact
+-- day_split::split
+pub day-split-split : (input : List ℕ) → Exact (λ r. (r ≡ parted 0 0 (lines input)) × ((r .bytes ≤ length input) × (r .lines ≤ length input)))
+day-split-split input r r′ h h′ = exact (h .0) (h′ .0)
+
+-- ---- day_input
+
+-- day_input::open
+pub day-input-open : (input : List ℕ) → Exact₃ (λ r periodics′ triggers′. opened r periodics′ triggers′ ≡ planned input)
+day-input-open = day-input.open-exact
 
 -- ---- day_minute
 
 -- day_minute::day_minute
-pub day-minute-day-minute : (roles «periodic_count» «trigger_count» : ℕ) (periodics triggers tape : List ℕ) (at instant enabled : ℕ) (waiting events : List ℕ)
-    → Exact₅ (λ r instant′ enabled′ waiting′ events′. MinuteOutcome (rules roles «periodic_count» «trigger_count» periodics triggers) tape at (lent instant enabled waiting events) r (lent instant′ enabled′ waiting′ events′))
-day-minute-day-minute roles «periodic_count» «trigger_count» periodics triggers tape at instant enabled waiting events = parts _ (day-minute.day-minute-exact (rules roles «periodic_count» «trigger_count» periodics triggers) tape at (lent instant enabled waiting events))
+pub day-minute-day-minute : (counts : Counts) (periodics triggers tape : List ℕ) (at instant enabled : ℕ) (waiting events : List ℕ)
+    → Exact₅ (λ r instant′ enabled′ waiting′ events′. MinuteOutcome (rules counts periodics triggers) tape at (lent instant enabled waiting events) r (lent instant′ enabled′ waiting′ events′))
+day-minute-day-minute counts periodics triggers tape at instant enabled waiting events = parts _ (day-minute.day-minute-exact (rules counts periodics triggers) tape at (lent instant enabled waiting events))
 
--- ---- days
+-- ---- day_print
 
--- days::day
-pub days-day : (input out : List ℕ) → Exact₂ (λ r out′. DayOutcome input out r out′)
-days-day = days.day-exact
+-- day_print::day
+pub day-print-day : (input out : List ℕ) → Exact₂ (λ r out′. DayOutcome input out r out′)
+day-print-day = day-print.day-exact
 
 -- ==== HYPOTHESES: what a theorem above asks besides its contract, or concludes where that is not `Exact`, and why. Its other binders are plain data. The gate lets no other stand, and none that is gone.
 -- solver::solve asks `length events ≡ EVENTS`: of a buffer of another length the solver promises only that it keeps its length. See EXCEPTIONS.
 -- solver::solve asks `GoodOrder (sheetOf roleCount periodicCount n periodics triggers)`: of rows out of order likewise.
 -- solver::solve asks `Levels (sheetOf roleCount periodicCount n periodics triggers) (byteAt levels)`: of levels that do not meet the rule likewise.
--- event_rows::with asks `whole row`: the type of the code says it. A `Row` is an array of 128 truth values, and to a statement a list.
--- event_rows::joined asks `whole x`: the type of the code says it.
--- event_rows::joined asks `whole y`: the type of the code says it.
--- rows::link asks `wholeRows rows`: the type of the code says it. `Rows` are an array of 128 such rows.
+-- reach_row::with asks `whole row`: the type of the code says it. A `Row` is an array of 128 truth values, and to a statement a list.
+-- reach_row::joined asks `whole x`: the type of the code says it.
+-- reach_row::joined asks `whole y`: the type of the code says it.
+-- reach_rows::link asks `wholeRows rows`: the type of the code says it. `Rows` are an array of 128 such rows.
 -- reach::closed asks `wholeRows edges`: the type of the code says it.
 -- edges::draw asks `wholeRows rows`: the type of the code says it.
--- lines::read_lines concludes `Same r r₂ periodics′ periodics₂ triggers′ triggers₂`: after a refusal nothing is said of the tables. See EXCEPTIONS.
--- minute::act asks `length events ≡ EVENTS`: it hands out what the solver makes, which promises a solution there alone.
--- minute::act asks `GoodOrder (sheetOf roleCount «periodic_count» «trigger_count» periodics triggers)`: likewise.
--- minute::act asks `Levels (sheetOf roleCount «periodic_count» «trigger_count» periodics triggers) (byteAt levels)`: likewise.
+-- instant::act asks `length events ≡ EVENTS`: it hands out what the solver makes, which promises a solution there alone.
+-- instant::act asks `GoodOrder (sheetOf roleCount (counts .periodics) (counts .triggers) periodics triggers)`: likewise.
+-- instant::act asks `Levels (sheetOf roleCount (counts .periodics) (counts .triggers) periodics triggers) (byteAt levels)`: likewise.
 
 -- ==== WHAT SOME ASK. These are public only because a crate ends there: each asks something of its callers, the functions named, which have shown it. Each is exact as it stands above,
--- whatever it is called with. Whoever uses the box calls sheet::read_sheet, step::step, entry::step_requests or days::day, which ask nothing.
--- tables::copy_in asks that the row fits: line_acts::put_periodic, line_acts::put_trigger, hand_out::copy_out.
--- prints::put_line asks that the line fits: printed_frames::refusal_line, days::run.
+-- whatever it is called with. Whoever uses the box calls reader::read_sheet, step::step, entry::step_requests or day_print::day, which ask nothing.
+-- tables::copy_in asks that the row fits: sheet_acts::put_periodic, sheet_acts::put_trigger, reader::copy_out.
+-- prints::put_line asks that the line fits: printed_frames::refusal_line, day_print::run.
 -- keys::chains asks for at most 256 triggers: solver::by_keys.
 -- keys::next asks for a key below 257: solver::by_keys.
 -- turns::settle asks for an events buffer of 128 numbers, a key that is not 0, and chained triggers: solver::by_keys.
--- line_acts::act asks for room for the frame's row and for tables of their lengths: lines::take, once the line's tests passed.
--- lines::read_lines asks for lengths that LENGTH has tested: sheet::read_within.
--- hand_out::hand_out asks for two pairs of tables of the same lengths: sheet::read_within.
--- minute::act asks for an instant that is not above the last: step::step_within, once LAST was tested.
--- tape::read_tape asks for at most 65,536 bytes, and as many lines before them: openings::open_tape, once LENGTH was tested.
--- openings::open asks for tables of zeros: days::print_day.
+-- sheet_acts::act asks for room for the frame's row and for tables of their lengths: reader::take, once the line's tests passed.
+-- instant::act asks for an instant that is not above the last: step::step_within, once LAST was tested.
+-- tape::read_tape asks for at most 65,536 bytes, and as many lines before them: day_input::open_tape, once LENGTH was tested.
+-- day_input::open asks for tables of zeros: day_print::print_day.
 
 -- ==== EXCEPTIONS: contracts that leave something open, and why.
--- solver::solve has one content where the rows are in good order and the levels meet the rule, as above. Elsewhere it promises the buffer's length alone. minute::act alone calls it, for what the
+-- solver::solve has one content where the rows are in good order and the levels meet the rule, as above. Elsewhere it promises the buffer's length alone. instant::act alone calls it, for what the
 -- judge has passed: a refusal of its own would be a second judge.
--- minute::act likewise is exact where the solver is. step::step_within alone calls it, after the judge.
--- lines::read_lines has one answer, and one content of its two tables where the lines go on to their end, as above. After a refusal it says nothing of them: they are the
--- reader's own, and sheet::read_within, its one caller, drops them.
+-- instant::act likewise is exact where the solver is. step::step_within alone calls it, after the judge.
 -- keys::chains leaves its places past the triggers open: solver::by_keys, its one caller, does not look there.
 -- keys::next may give any number up to the next key: all that solver::by_keys, its one caller, needs is that it leaves none out.
 -- turns::settle says what it keeps and that nothing is left to add: the solver's proof needs no more, and from it has one solution. solver::by_keys alone calls it.

@@ -17,26 +17,25 @@ use Rattle.text.specs.Lines.{lines}
 use Rattle.tables.specs.Layout.{PERIODIC-TABLE, TRIGGER-TABLE, padded}
 use Rattle.tables.specs.Buffers.{rolesOf}
 use Rattle.tables.specs.Asked.{Request, Asked, asks}
-use Rattle.walks.specs.Walks.{goes}
-use Rattle.line_acts.specs.Acts.{Progress}
-use Rattle.lines.specs.Lines.{reads}
-use Rattle.sheet.specs.Sheet.{start, lengthsFit}
-use Rattle.row_judge.specs.Judge.{Rules, rules, sheetIn}
-use Rattle.step.specs.Outcome.{Lent, stateIn}
-use Rattle.split.specs.Split.{sheetPart}
+use Rattle.line_readers.specs.Walks.{goes}
+use Rattle.sheet_acts.specs.Acts.{Progress}
+use Rattle.reader.specs.Lines.{reads}
+use Rattle.reader.specs.Reading.{start, sheetLengthsFit}
+use Rattle.tables.specs.Lent.{Rules, rules, sheetIn, Lent, stateIn}
+use Rattle.day_split.specs.Split.{sheetPart}
 use Rattle.examples.specs.Written.{Requested}
 use Rattle.examples.specs.Day.{text}
 use Rattle.examples.specs.Table.{input, periodics, triggers}
 
--- A SHEET IN GOOD ORDER, as bytes: LENGTH is not given, and every line passes its tests up to and with the end; s is what was read of them.
+-- A SHEET IN GOOD ORDER, as bytes: it passes LENGTH, and every line passes its tests up to and with the end; s is what was read of them.
 pub record ReadsInOrder (sheet p t : List ℕ) (s : Progress) : Type 0 where
-  pub lengths : lengthsFit (length sheet) (length p) (length t) ≡ true
+  pub lengths : sheetLengthsFit (length sheet) (length p) (length t) ≡ true
   pub to-its-end : reads (goes start) (lines sheet) ≡ goes s
 
 -- A STEP IN GOOD ORDER: what is lent has its exact lengths, the instant and the number of requests are within their limits, and the rows are in good order.
 pub record Ordered (R : Rules) (q : Asked) (l : Lent) : Type 0 where
-  pub periodics : length (R .periodics) ≡ PERIODIC-TABLE
-  pub triggers : length (R .triggers) ≡ TRIGGER-TABLE
+  pub periodics : length (R .tables .periodics) ≡ PERIODIC-TABLE
+  pub triggers : length (R .tables .triggers) ≡ TRIGGER-TABLE
   pub waiting : length (l .waiting) ≡ WAITING-NUMBERS
   pub events : length (l .events) ≡ EVENTS
   pub instant : l .instant ≤ LAST-INSTANT
@@ -69,7 +68,7 @@ abbrev pub workedSheet : List ℕ
 workedSheet = sheetPart (text (input .input))
 
 abbrev pub worked : Rules
-worked = rules 3 1 2 (padded PERIODIC-TABLE periodics) (padded TRIGGER-TABLE triggers)
+worked = rules (record { roles = 3; periodics = 1; triggers = 2 }) (padded PERIODIC-TABLE periodics) (padded TRIGGER-TABLE triggers)
 
 -- the requests of instant t among these, as they are lent to a step
 abbrev pub lentAt : ℕ → List Requested → List Request

@@ -1,1 +1,1 @@
-// The top theorems, stated once more and in one place; there is no code here.
+// The top theorems, stated once more in one place, and the exactness of every public function; there is no code here.

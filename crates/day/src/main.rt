@@ -1,9 +1,9 @@
-// The day program: it reads an input from standard input and prints its day. (No contract can say what is read or written: all that is to be believed stands in `days`.)
+// The day program: it reads an input and writes its day. No contract says what is read or written; what is to be believed stands in `day_print`.
 use answers::Verdict;
 
 // Prints the day of an input, by way of a buffer that is lent for it: what stands at its front, or the line of the refusal.
 fn print(input: &[u8], out: &mut [u8]) {
-    let printed = days::day(input, out);
+    let printed = day_print::day(input, out);
     let n = printed.length;
     let verdict = printed.verdict;
     match verdict {
@@ -12,7 +12,7 @@ fn print(input: &[u8], out: &mut [u8]) {
                 io::write_all(1, &out[0..n]);
             }
         }
-        Verdict::Refuse(r) => {
+        Verdict::Refused(r) => {
             io::write_all(1, &printed_frames::refusal_line(r));
         }
     }

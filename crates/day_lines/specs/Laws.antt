@@ -1,4 +1,4 @@
 -- What is proved of the lines of a day.
 pub mod Weight
 pub mod Lines
-pub mod Turn
+pub mod Written

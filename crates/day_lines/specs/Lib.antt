@@ -1,4 +1,4 @@
--- The lines of a day's instants. Everything below `Laws` is proved of them.
+-- The lines of a day's instants, and the lent buffer that holds them. Everything below `Laws` is proved of them.
 pub mod Lines
-pub mod Run
+pub mod Written
 pub mod Laws

@@ -1,1 +1,1 @@
-// What the lines of a day are, and what is proved of them; there is no code here.
+// The lines of a day's instants, and what a minute does to them, in definitions and laws; there is no code here.

@@ -1,4 +1,3 @@
 -- What is proved of a minute of a day.
 pub mod Outcome
-pub mod Cursor
 pub mod Exact

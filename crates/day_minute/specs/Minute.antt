@@ -6,11 +6,11 @@ use Prim.Native.Nat.{ℕ, _^_, _<_}
 use lib.ListN.{drop}
 use Rattle.text.specs.Lines.{Lines, lines}
 use Rattle.tables.specs.Asked.{flat}
-use Rattle.row_judge.specs.Judge.{Rules}
-use Rattle.step.specs.Outcome.{Lent, Outcome}
-use Rattle.batches.specs.declared.Batch.{Batch}
-use Rattle.batches.specs.Batch.{takes, rest, noneYet}
-use Rattle.day_minute.specs.declared.Turn.{Turn}
+use Rattle.tables.specs.Lent.{Rules, Lent}
+use Rattle.step.specs.Outcome.{Outcome}
+use Rattle.tape_batches.specs.declared.Batch.{Batch}
+use Rattle.tape_batches.specs.Batch.{takes, rest, noneYet}
+use Rattle.day_minute.specs.declared.Minute.{Minute}
 
 -- the requests of the next instant that stand in a tape at a byte and on
 abbrev pub batchAt : List ℕ → ℕ → Lent → Batch
@@ -20,7 +20,7 @@ batchAt tape at before = takes (before .instant) (lines (drop at tape)) (noneYet
 abbrev pub restAt : List ℕ → ℕ → Lent → Lines
 restAt tape at before = rest (before .instant) (lines (drop at tape)) 0
 
-pub record MinuteOutcome (R : Rules) (tape : List ℕ) (at : ℕ) (before : Lent) (r : Turn) (after : Lent) : Type 0 where
+pub record MinuteOutcome (R : Rules) (tape : List ℕ) (at : ℕ) (before : Lent) (r : Minute) (after : Lent) : Type 0 where
   pub step : Outcome R (flat (batchAt tape at before .asked) (batchAt tape at before .count)) before (r .verdict) after
   pub next : r .next ≡ batchAt tape at before .next
   pub roles : (r .enabled ≡ after .roles) × (r .enabled < 2 ^ 64)

@@ -1,3 +1,4 @@
+// What triggers with a delay let wait: the head of each whose conditions hold and whose body is met joins the row of its instant, nothing else does.
 ghost use mathlib.Core.Path.{_≡_};
 ghost use mathlib.Core.Bool.{_&&_};
 ghost use lib.Dec.{ltb};
@@ -15,7 +16,12 @@ use waiting::place;
 
 // The head of trigger i comes to wait: it has a delay, its conditions hold and its body is met.
 fn comes_to_wait(events: &[u16], triggers: &[u8], i: u16, roles: u64) -> bool
-    ensures { λ r. ⌜ r ≡ (ltb 0 (triggerAt (now (triggers .entry)) i .delay) && (allows (rolesOf roles) (triggerAt (now (triggers .entry)) i) && met (eventsOf (now (events .entry))) (eventsOf (now (events .entry))) (triggerAt (now (triggers .entry)) i))) ⌝ }
+    ensures { λ r. ⌜
+        r
+        ≡ (ltb 0 (triggerAt (now (triggers .entry)) i .delay)
+        && (allows (rolesOf roles) (triggerAt (now (triggers .entry)) i)
+        && met (eventsOf (now (events .entry))) (eventsOf (now (events .entry))) (triggerAt (now (triggers .entry)) i)))
+        ⌝ }
 {
     if trigger_byte(triggers, i, DELAY) == 0 {
         return false;
@@ -35,7 +41,11 @@ pub fn wait_triggers(
     roles: u64,
     t: u32,
 )
-    ensures { λ _. ⌜ now (waiting .exit) ≡ joins (now (waiting .entry)) n (λ i. triggerEntry (rolesOf roles) (eventsOf (now (events .entry))) t (triggerAt (now (triggers .entry)) i)) ⌝ }
+    ensures { λ _. ⌜
+        now (waiting .exit)
+        ≡ joins (now (waiting .entry)) n
+        (λ i. triggerEntry (rolesOf roles) (eventsOf (now (events .entry))) t (triggerAt (now (triggers .entry)) i))
+        ⌝ }
 {
     let mut i: u16 = 0;
     while i < n {

@@ -1,14 +1,14 @@
+// The due periodic events: those of the first n rows of any table that are due at the instant t join the events buffer, and nothing else does.
 ghost use mathlib.Core.Path.{_≡_};
 ghost use Prim.Native.Nat.{_+_, _-_, _%_};
 ghost use Rattle.theory.specs.Sheet.{rowDue};
 ghost use Rattle.periodics.specs.Rows.{periodicOf};
 ghost use Rattle.masks.specs.Joins.{joins};
 ghost use Rattle.due.specs.Due.{dueAt};
-use basic::both;
-use basic::either;
 use masks::join_where;
 use periodics::PeriodicRow;
 use periodics::periodic_row;
+use theory::NO_END;
 use widths::index;
 use widths::long;
 
@@ -46,9 +46,9 @@ fn row_due(w: PeriodicRow, t: u32) -> bool
     ensures { λ r. ⌜ r ≡ rowDue (periodicOf w) t ⌝ }
 {
     let begun = w.begin <= t;
-    let lasts = either(t <= w.end, w.end == 4294967295);
+    let lasts = (t <= w.end) | (w.end == NO_END);
     let open = residue(t, w.period, w.first) < long(w.run);
-    both(both(begun, lasts), open)
+    begun & lasts & open
 }
 
 // The due events of the first n rows join the events buffer.

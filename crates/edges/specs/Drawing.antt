@@ -7,7 +7,7 @@ use Rattle.theory.specs.Below.{anyBelow}
 use Rattle.theory.specs.Events.{conf}
 use Rattle.theory.specs.Sheet.{Trigger, Sheet}
 use Rattle.theory.specs.Graph.{Edges, counts}
-use Rattle.event_rows.specs.Row.{Row, reaches}
+use Rattle.reach_row.specs.Row.{Row, reaches}
 
 -- where an edge for the body event e leaves: conf(e) for a − edge, e for a + edge
 abbrev pub tailOf : Bool → ℕ → ℕ

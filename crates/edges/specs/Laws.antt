@@ -7,7 +7,6 @@ use Prim.Native.Nat.{ℕ, _+_, _≤_, _<_}
 use native.Mathlib.Numerals.{add-one}
 use native.Mathlib.Omega.{arith}
 use lib.Dec.{eqb}
-use lib.ListN.{replicate}
 use borrow.Author.Tests.{eqb-true}
 use Rattle.theory.specs.Numbers.{EVENTS}
 use Rattle.theory.specs.Below.{anyBelow}
@@ -15,10 +14,10 @@ use Rattle.theory.specs.Sheet.{Trigger, Sheet}
 use Rattle.theory.specs.Graph.{Edges, counts, node, drawn}
 use Rattle.theory.specs.Laws.Tests.{same-or}
 use Rattle.tables.specs.Layout.{triggerAt, sheetOf, triggersOf}
-use Rattle.event_rows.specs.Row.{Row, reaches, RowIs}
-use Rattle.rows.specs.Rows.{RowsAre, linked}
-use Rattle.event_rows.specs.Laws.Row.{row-same, empty-row}
-use Rattle.rows.specs.Laws.Rows.{rows-same}
+use Rattle.reach_row.specs.Row.{Row, reaches, RowIs}
+use Rattle.reach_row.specs.Laws.Row.{row-same}
+use Rattle.reach_rows.specs.Rows.{RowsAre, linked}
+use Rattle.reach_rows.specs.Laws.Rows.{rows-same}
 use Rattle.edges.specs.Drawing.{leaves, draws, drawsBelow, addedFrom}
 pub mod Exact
 
@@ -42,8 +41,8 @@ module _ (n : ℕ) (table : List ℕ) where
   abbrev pub nodeBelow : ℕ → ℕ → Bool
   nodeBelow i e = anyBelow i (λ r. counts sh r && eqb (triggerAt table r .head) e)
 
-  pub nodes-none : RowIs (nodeBelow 0) (replicate EVENTS false)
-  nodes-none = row-same (nodeBelow 0) (λ e _. sym (none-below (λ r. counts sh r && eqb (triggerAt table r .head) e))) empty-row
+  pub nodes-none : (row : Row) → RowIs (λ _. false) row → RowIs (nodeBelow 0) row
+  nodes-none row h = row-same (nodeBelow 0) (λ e _. sym (none-below (λ r. counts sh r && eqb (triggerAt table r .head) e))) h
 
   pub nodes-next : (row : Row) (i head : ℕ) (on : Bool) → on ≡ counts sh i → head ≡ triggerAt table i .head → RowIs (λ e. nodeBelow i e || (on && eqb head e)) row → RowIs (nodeBelow (i + 1)) row
   nodes-next row i head on p q h =

@@ -16,20 +16,21 @@ use Rattle.theory.specs.Box.{Step}
 use Rattle.theory.specs.Instant.{Requests}
 use Rattle.theory.specs.Laws.Tests.{test}
 use Rattle.theory.specs.Laws.Below.{below-cases, any-same}
+use Rattle.theory.specs.Laws.First.{first-same}
 use Rattle.answers.specs.declared.Verdict.{Verdict}
 use Rattle.answers.specs.declared.Name.the-variants.{Length, TooMany, Last}
+use Rattle.answers.specs.Answers.{refuse, andThen}
 use Rattle.tables.specs.Buffers.{eventsOf}
 use Rattle.tables.specs.Asked as lent
 use Rattle.tables.specs.Asked.{Asked, requestAt, flat, asks}
-use Rattle.theory.specs.Laws.First.{first-same}
-use Rattle.answers.specs.Answers.{refuse, andThen}
-use Rattle.row_judge.specs.Judge.{Rules, sheetIn, judgeTables}
+use Rattle.tables.specs.Lent.{Rules, sheetIn, Lent, stateIn}
+use Rattle.table_judge.specs.Judge.{judgeTables}
 use Rattle.requests.specs.declared.Request.{Request}
 use Rattle.requests.specs.Asked.{requestOf}
 use Rattle.requests.specs.Requests.{fits, firstOutside, judgeRequests}
 use Rattle.requests.specs.Flat.{FLAT-NUMBERS, putAt}
 use Rattle.requests.specs.Laws.Flat.{put-before, put-here}
-use Rattle.step.specs.Outcome.{Lent, stateIn, lengthsFit, judgeStep, Outcome}
+use Rattle.step.specs.Outcome.{lengthsFit, judgeStep, Outcome}
 use Rattle.step.specs.Laws.Passes.{step-passes}
 use Rattle.entry.specs.Listed.{none, listed, Holds}
 pub mod Exact
@@ -77,10 +78,10 @@ module _ (n : ℕ) (f g : ℕ → lent.Request) (same : (k : ℕ) → k < n → 
   alike-verdict : (R : Rules) (before : Lent) → judgeStep R q before ≡ judgeStep R q′ before
   unfolding judgeStep
   alike-verdict R before =
-      let tests : Asked → Verdict = λ x. andThen (judgeTables (sheetIn R)) (judgeRequests (R .roleCount) x) in
+      let tests : Asked → Verdict = λ x. andThen (judgeTables (sheetIn R)) (judgeRequests (R .counts .roles) x) in
       let inner : cond (leb n REQUESTS) (tests q) (refuse TooMany 0) ≡ cond (leb n REQUESTS) (tests q′) (refuse TooMany 0) =
       ⊎-elim
-      (λ (t : leb n REQUESTS ≡ true). rw t (ap (andThen (judgeTables (sheetIn R))) (alike-judged (leb-true _ _ t) (R .roleCount))))
+      (λ (t : leb n REQUESTS ≡ true). rw t (ap (andThen (judgeTables (sheetIn R))) (alike-judged (leb-true _ _ t) (R .counts .roles))))
       (λ (o : leb n REQUESTS ≡ false). rw o refl)
       (test (leb n REQUESTS)) in
       ap (λ (v : Verdict). cond (lengthsFit R before) (cond (leb (before .instant) LAST-INSTANT) v (refuse Last 0)) (refuse Length 0)) inner

@@ -11,13 +11,14 @@ use Rattle.theory.specs.Sheet.{Sheet}
 use Rattle.theory.specs.Instant.{Requests, Solves}
 use Rattle.theory.specs.Model.{noRoles}
 use Rattle.theory.specs.Box.{State, givens, Step, Fresh, SameState}
-use Rattle.tables.specs.Layout.{PERIODIC-TABLE, TRIGGER-TABLE, padded, sheetOf}
+use Rattle.tables.specs.Layout.{PERIODIC-TABLE, TRIGGER-TABLE, padded}
+use Rattle.tables.specs.Lent.{rules, sheetIn}
 use Rattle.text.specs.Lines.{LINE-END}
-use Rattle.readings.specs.declared.Read.{Read}
-use Rattle.readings.specs.declared.Reading.the-variants.{Good}
-use Rattle.hand_out.specs.Out.{readOutcome}
-use Rattle.openings.specs.Opening.{opens, sheetReading, opening}
-use Rattle.days.specs.Day.{Prints}
+use Rattle.tables.specs.declared.Counts.{Counts}
+use Rattle.reader.specs.declared.Reading.the-variants.{Good}
+use Rattle.reader.specs.Out.{readOutcome}
+use Rattle.day_input.specs.Opening.{opens, sheetReading, opening}
+use Rattle.day_print.specs.Day.{Prints}
 use Rattle.examples.specs.Written.{Prioritized, among, Requested, streamOf, Waits, stateOf}
 
 -- ---- lines
@@ -44,7 +45,7 @@ pub record Minute : Type 0 where
 -- instant; the instants from 0 on; and the lines of the output.
 pub record Day : Type 0 where
   pub input : List String
-  pub read : Read
+  pub read : Counts
   pub periodics : List ℕ
   pub triggers : List ℕ
   pub levels : List ℕ
@@ -55,7 +56,7 @@ pub record Day : Type 0 where
 
 -- the sheet of a day
 abbrev pub sheetOfDay : Day → Sheet
-sheetOfDay d = sheetOf (d .read .roles) (d .read .periodics) (d .read .triggers) (padded PERIODIC-TABLE (d .periodics)) (padded TRIGGER-TABLE (d .triggers))
+sheetOfDay d = sheetIn (rules (d .read) (padded PERIODIC-TABLE (d .periodics)) (padded TRIGGER-TABLE (d .triggers)))
 
 -- what is found at instant t
 abbrev pub minuteAt : List Minute → ℕ → Minute

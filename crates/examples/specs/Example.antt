@@ -13,7 +13,7 @@ use Rattle.theory.specs.Graph.{NoLoop, LoopAt}
 use Rattle.answers.specs.declared.Name.the-variants.{Loop}
 use Rattle.answers.specs.declared.Verdict.the-variants.{Pass}
 use Rattle.answers.specs.Answers.{refuse}
-use Rattle.row_judge.specs.Judge.{judgeTables}
+use Rattle.table_judge.specs.Judge.{judgeTables}
 use Rattle.examples.specs.Written.{Prioritized, among, Rule, Rest, sheetWith, Fits}
 use Rattle.examples.specs.Day.{Day, Worked}
 
@@ -52,13 +52,13 @@ pub record Wins (w l : Prioritized) : Type 0 where
   pub after : (ST : Roles) → rolesAfter ST (among (w ∷ l ∷ [])) (w .event / 2) ≡ odd (w .event)
 
 -- The sheet is in good order and has no loop, and the judge of the tables passes it.
-pub record Accepted (sh : Sheet) : Type 0 where
+pub record SheetAccepted (sh : Sheet) : Type 0 where
   pub good : GoodOrder sh
   pub no-loop : NoLoop sh
   pub verdict : judgeTables sh ≡ Pass
 
 -- The sheet has a loop at this place, and the judge of the tables says so.
-pub record Refused (sh : Sheet) (place : ℕ) : Type 0 where
+pub record SheetRefused (sh : Sheet) (place : ℕ) : Type 0 where
   pub loop : LoopAt sh place
   pub verdict : judgeTables sh ≡ refuse Loop place
 
@@ -76,8 +76,8 @@ abbrev pub Says : Example → Type 0
 Says (each n f) = (i : ℕ) → i < n → Says (f i)
 Says (due-at period first run t b) = (event priority : ℕ) → rowDue (rowOf period first run event priority) t ≡ b
 Says (wins-over w l) = Wins w l
-Says (accepted roles rules levels) = (rest : Rest) → Fits roles rest → Accepted (sheetWith rest rules)
-Says (loops roles rules place back) = (rest : Rest) → Fits roles rest → Refused (sheetWith rest rules) place
+Says (accepted roles rules levels) = (rest : Rest) → Fits roles rest → SheetAccepted (sheetWith rest rules)
+Says (loops roles rules place back) = (rest : Rest) → Fits roles rest → SheetRefused (sheetWith rest rules) place
 Says (solved rules givens solution levels) = (rest : Rest) → OnlySolution (sheetWith rest rules) (among givens) (among solution)
 Says (as-given rules) = (rest : Rest) (G : Events) → OnlySolution (sheetWith rest rules) G G
 Says (never-fires events) = (sh : Sheet) (i : ℕ) → i < sh .triggerCount → InBody events (sh .trigger i)

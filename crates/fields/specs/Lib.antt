@@ -1,2 +1,3 @@
 -- The fields of a frame: FIELD.
 pub mod Fields
+pub mod Laws

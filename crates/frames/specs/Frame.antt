@@ -19,6 +19,6 @@ abbrev pub sum : List ℕ → ℕ
 sum [] = 0
 sum (b ∷ f) = b + sum f
 
--- CHECK is not given: the sum of all bytes of the frame is a multiple of 256
+-- passes CHECK: the sum of all bytes of the frame is a multiple of 256
 unfoldable pub checked : List ℕ → Bool
 checked f = eqb (sum f % 256) 0

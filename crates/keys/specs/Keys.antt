@@ -5,7 +5,7 @@ use mathlib.Core.List.{List}
 use Prim.Native.Nat.{ℕ, _+_, _≤_, _<_}
 use lib.ListN.{getD}
 use Rattle.theory.specs.Numbers.{TRIGGER-ROWS}
-use Rattle.theory.specs.Stage.{keyOf}
+use Rattle.theory.specs.Solving.{keyOf}
 use Rattle.tables.specs.Layout.{byteAt, triggersOf}
 use Rattle.tables.specs.Buffers.{rolesOf}
 

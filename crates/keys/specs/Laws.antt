@@ -13,8 +13,8 @@ use lib.Seq.{getD-set-same, getD-set-other}
 use borrow.Author.Tests.{eqb-true, eqb-false}
 use Rattle.theory.specs.Numbers.{TRIGGER-ROWS}
 use Rattle.theory.specs.Laws.Tests.{test}
-use Rattle.theory.specs.Stage.{Gap}
-use Rattle.theory.specs.Laws.Stage.{gap-wider}
+use Rattle.theory.specs.Solving.{Gap}
+use Rattle.theory.specs.Laws.Solving.{gap-wider}
 use Rattle.keys.specs.Keys.{KEYS, PLACES, firstOf, afterOf, First, Chained}
 
 module _ (key : ℕ → ℕ) (n : ℕ) where

@@ -1,12 +1,20 @@
+// KIND: whether a frame has the byte count of its kind, and may stand where it does: the header first, then rows, then the end and nothing more.
 ghost use mathlib.Core.Path.{_≡_};
 ghost use mathlib.Core.Bool.{_&&_};
 ghost use Prim.Native.Nat.{_<_};
 ghost use Rattle.frames.specs.Frame.{bytesOf};
 ghost use Rattle.kinds.specs.Kinds.{sizeOf, sized, mayStand};
-use basic::both;
-use basic::either;
 use frames::byte_at;
 use widths::index;
+
+// The kinds of a sheet's frames, which are their first bytes.
+pub const HEADER: u8 = 0x10;
+
+pub const PERIODIC: u8 = 0x20;
+
+pub const TRIGGER: u8 = 0x30;
+
+pub const END: u8 = 0xf0;
 
 // Which frames may come next: the header, rows and the end, or nothing more.
 pub enum Stage {
@@ -20,16 +28,16 @@ fn size_of(k: u8, e: usize, c: usize) -> usize
     requires { ⌜ (e < 256) × (c < 256) ⌝ }
     ensures { λ r. ⌜ r ≡ sizeOf k e c ⌝ }
 {
-    if k == 16 {
+    if k == HEADER {
         return 4;
     }
-    if k == 32 {
+    if k == PERIODIC {
         return 18;
     }
-    if k == 48 {
+    if k == TRIGGER {
         return 7 + e + c;
     }
-    if k == 240 {
+    if k == END {
         return 5;
     }
     0
@@ -50,15 +58,15 @@ fn may_stand(stage: Stage, k: u8) -> bool
     ensures { λ r. ⌜ r ≡ mayStand stage k ⌝ }
 {
     match stage {
-        Stage::Start => k == 16,
-        Stage::Rows => either(k == 32, either(k == 48, k == 240)),
+        Stage::Start => k == HEADER,
+        Stage::Rows => (k == PERIODIC) | ((k == TRIGGER) | (k == END)),
         Stage::Ended => false,
     }
 }
 
-// KIND is not given for a line's frame of kind k.
+// A line's frame of kind k passes KIND.
 pub fn is_kind(line: &[u8], stage: Stage, k: u8) -> bool
     ensures { λ r. ⌜ r ≡ (sized (bytesOf (now (line .entry))) && mayStand stage k) ⌝ }
 {
-    both(is_sized(line), may_stand(stage, k))
+    is_sized(line) & may_stand(stage, k)
 }

@@ -11,14 +11,16 @@ use Rattle.theory.specs.Sheet.{Sheet}
 use Rattle.theory.specs.Graph.{NoLoop, LoopAt}
 use Rattle.answers.specs.declared.Name.{Name}
 use Rattle.answers.specs.declared.Name.the-variants.{Length, Frame, Kind, Loop}
+use Rattle.answers.specs.Answers.{refusal}
 use Rattle.frames.specs.Frame.{bytesOf}
-use Rattle.tables.specs.Layout.{PERIODIC-TABLE, TRIGGER-TABLE, padded, sheetOf}
+use Rattle.tables.specs.declared.Counts.{Counts}
+use Rattle.tables.specs.Layout.{PERIODIC-TABLE, TRIGGER-TABLE, padded}
+use Rattle.tables.specs.Lent.{rules, sheetIn}
 use Rattle.periodic_frames.specs.Row.{periodicRow}
 use Rattle.trigger_frames.specs.Row.{triggerRow}
 use Rattle.kinds.specs.Kinds.{PERIODIC, TRIGGER, END, kind}
-use Rattle.readings.specs.declared.Reading.the-variants.{Good, Bad}
-use Rattle.readings.specs.declared.Read.{Read}
-use Rattle.hand_out.specs.Out.{ReadOutcome, readOutcome}
+use Rattle.reader.specs.declared.Reading.the-variants.{Good, Refused}
+use Rattle.reader.specs.Out.{ReadOutcome, readOutcome}
 use Rattle.line_by_line.specs.Lines.{linesIn, restIn}
 use Rattle.line_by_line.specs.Tests.{howMany, roleCount, order, allPass, FirstFails}
 
@@ -82,12 +84,12 @@ abbrev pub triggerTable : List (List ℕ) → List ℕ
 triggerTable fs = padded TRIGGER-TABLE (rowsOf TRIGGER triggerRow fs)
 
 -- its role count, and how many rows it has of either kind
-abbrev pub countsOf : List (List ℕ) → Read
+abbrev pub countsOf : List (List ℕ) → Counts
 countsOf fs = record { roles = roleCount fs; periodics = howMany PERIODIC fs; triggers = howMany TRIGGER fs }
 
 -- and the sheet that they stand for
 abbrev pub sheetSaid : List (List ℕ) → Sheet
-sheetSaid fs = sheetOf (roleCount fs) (howMany PERIODIC fs) (howMany TRIGGER fs) (periodicTable fs) (triggerTable fs)
+sheetSaid fs = sheetIn (rules (countsOf fs) (periodicTable fs) (triggerTable fs))
 
 -- ---- what comes back
 
@@ -101,18 +103,14 @@ pub record LengthsFit (sheet p t : List ℕ) : Type 0 where
 abbrev pub framesIn : List ℕ → List (List ℕ)
 framesIn sheet = framesOf (linesIn sheet)
 
--- a refusal at its place leaves the tables as they came
-abbrev pub refusal : Name → ℕ → List ℕ → List ℕ → ReadOutcome
-refusal name k p t = readOutcome (Bad (record { name = name; place = k })) p t
-
--- WHAT COMES BACK of a sheet's bytes, with the lent tables p and t as they came: the answer, and what the tables hold then
+-- WHAT COMES BACK of a sheet's bytes, with the lent tables p and t as they came: the answer, and what the tables hold then, which after a refusal is p and t
 pub data ComesBack (sheet p t : List ℕ) (o : ReadOutcome) : Type 0 where
   -- LENGTH, at 0;
-  by-length : ¬ LengthsFit sheet p t → o ≡ refusal Length 0 p t → ComesBack sheet p t o
+  by-length : ¬ LengthsFit sheet p t → o ≡ readOutcome (Refused (refusal Length 0)) p t → ComesBack sheet p t o
   -- else a line is refused, with its name at its number;
-  at-line : (name : Name) (k : ℕ) → LengthsFit sheet p t → RefusedAt (linesIn sheet) (restIn sheet) name k → o ≡ refusal name k p t → ComesBack sheet p t o
+  at-line : (name : Name) (k : ℕ) → LengthsFit sheet p t → RefusedAt (linesIn sheet) (restIn sheet) name k → o ≡ readOutcome (Refused (refusal name k)) p t → ComesBack sheet p t o
   -- else the sheet has a loop: LOOP, at the pair;
-  by-loop : (k : ℕ) → LengthsFit sheet p t → ReadsWhole (linesIn sheet) (restIn sheet) → LoopAt (sheetSaid (framesIn sheet)) k → o ≡ refusal Loop k p t → ComesBack sheet p t o
+  by-loop : (k : ℕ) → LengthsFit sheet p t → ReadsWhole (linesIn sheet) (restIn sheet) → LoopAt (sheetSaid (framesIn sheet)) k → o ≡ readOutcome (Refused (refusal Loop k)) p t → ComesBack sheet p t o
   -- else OK, with the sheet's counts and tables
   accepted : LengthsFit sheet p t → ReadsWhole (linesIn sheet) (restIn sheet) → NoLoop (sheetSaid (framesIn sheet))
       → o ≡ readOutcome (Good (countsOf (framesIn sheet))) (periodicTable (framesIn sheet)) (triggerTable (framesIn sheet)) → ComesBack sheet p t o

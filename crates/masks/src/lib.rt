@@ -1,7 +1,9 @@
+// Buffers of masks of priorities: the number at a place, 0 past the end, and a priority joined to it. What is no place or no priority joins nothing.
 ghost use mathlib.Core.Path.{_≡_};
 ghost use lib.ListN.{getD};
 ghost use Rattle.masks.specs.Masks.{withPriority, joinedAt};
 ghost use Rattle.masks.specs.Joins.{joinedWhere};
+use theory::PRIORITIES;
 
 // The number at i; 0 past the end.
 pub fn number(buffer: &[u16], i: usize) -> u16
@@ -17,7 +19,7 @@ pub fn number(buffer: &[u16], i: usize) -> u16
 fn with_priority(mask: u16, p: u8) -> u16
     ensures { λ r. ⌜ r ≡ withPriority mask p ⌝ }
 {
-    if p < 16 {
+    if p < PRIORITIES {
         let weight: u16 = 1 << p;
         return mask | weight;
     }

@@ -1,10 +1,12 @@
+// The fields of a periodic row, read from a table of any length by any row number; past the end stands 0.
 ghost use mathlib.Core.Path.{_≡_};
 ghost use Prim.Native.Nat.{_<_};
 ghost use Rattle.tables.specs.Layout.{two, four, periodicAt};
 ghost use Rattle.periodics.specs.Rows.{periodicOf};
+use tables::PERIODIC_BYTES;
 use tables::byte;
+use widths::pair;
 use widths::row_index;
-use widths::wide;
 
 // A periodic row, field by field.
 pub struct PeriodicRow {
@@ -22,7 +24,7 @@ fn two_bytes(table: &[u8], i: usize) -> u32
     requires { ⌜ i < 1048640 ⌝ }
     ensures { λ r. ⌜ (r ≡ two (now (table .entry)) i) × (r < 65536) ⌝ }
 {
-    256 * wide(byte(table, i)) + wide(byte(table, i + 1))
+    pair(byte(table, i), byte(table, i + 1))
 }
 
 // The number of four bytes at i, high byte first.
@@ -37,7 +39,7 @@ fn four_bytes(table: &[u8], i: usize) -> u32
 pub fn periodic_row(table: &[u8], i: u16) -> PeriodicRow
     ensures { λ r. ⌜ periodicOf r ≡ periodicAt (now (table .entry)) i ⌝ }
 {
-    let at = 16 * row_index(i);
+    let at = PERIODIC_BYTES * row_index(i);
     PeriodicRow {
         begin: four_bytes(table, at),
         end: four_bytes(table, at + 4),

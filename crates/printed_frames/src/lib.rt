@@ -1,3 +1,4 @@
+// What is printed, to the byte: the frame of a minute, and the whole line of a refusal.
 ghost use mathlib.Core.Path.{_≡_};
 ghost use Prim.Native.Nat.{_/_, _%_, _<_};
 ghost use Rattle.printed_frames.specs.Frames.{refusalFrame, refusalLine, minuteFrame};

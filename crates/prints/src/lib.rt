@@ -1,3 +1,4 @@
+// A frame as its line, two digits a byte, then the check and 0A, laid over a buffer where it fits. What is printed so reads back.
 ghost use mathlib.Core.Path.{_≡_};
 ghost use mathlib.Core.List.{[], _∷_};
 ghost use Prim.Native.Nat.{_+_, _*_, _%_, _≤_, _<_};
@@ -5,6 +6,8 @@ ghost use lib.ListN.{length};
 ghost use lib.Seq.{paste};
 ghost use Rattle.frames.specs.Frame.{sum};
 ghost use Rattle.prints.specs.Print.{digitOf, hexOf, checkOf, lineOf};
+use frames::TEN_BELOW_A;
+use text::LINE_END;
 use widths::wide;
 
 // The character of a digit.
@@ -13,9 +16,9 @@ fn glyph(d: u8) -> u8
     ensures { λ r. ⌜ r ≡ digitOf d ⌝ }
 {
     if d < 10 {
-        return 48 + d;
+        return b'0' + d;
     }
-    55 + d
+    TEN_BELOW_A + d
 }
 
 // The sum of the frame's bytes, less the multiples of 256.
@@ -65,10 +68,13 @@ fn put_hex(out: &mut [u8], at: usize, frame: &[u8])
 // A frame's line over the buffer's bytes from `at` on. (For the day alone, which has shown that it fits.)
 pub fn put_line(out: &mut [u8], at: usize, frame: &[u8])
     requires { ⌜ at + (2 * length (now frame) + 3) ≤ length (now out) ⌝ }
-    ensures { λ _. ⌜ now (out .exit) ≡ paste (now (out .entry)) at (lineOf (now (frame .entry))) (length (lineOf (now (frame .entry)))) ⌝ }
+    ensures { λ _. ⌜
+        now (out .exit)
+        ≡ paste (now (out .entry)) at (lineOf (now (frame .entry))) (length (lineOf (now (frame .entry))))
+        ⌝ }
 {
     let end = at + 2 * frame.len();
     put_hex(out, at, frame);
     put_byte(out, end, check_of(frame));
-    out[end + 2] = 10;
+    out[end + 2] = LINE_END;
 }

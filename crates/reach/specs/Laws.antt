@@ -14,11 +14,11 @@ use Rattle.theory.specs.Graph.{Edges}
 use Rattle.theory.specs.LoopTest.{through}
 use Rattle.theory.specs.Laws.Tests.{test, same-or}
 use Rattle.theory.specs.Laws.Reach.{through-start, through-next}
-use Rattle.event_rows.specs.Row.{Row, RowIs}
-use Rattle.rows.specs.Rows.{edgesOf, RowsAre, linked}
-use Rattle.event_rows.specs.Laws.Changes.{not-yet, one-more, all-made}
-use Rattle.event_rows.specs.Laws.Row.{row-same}
-use Rattle.rows.specs.Laws.Rows.{rows-same, rows-say, rows-set}
+use Rattle.reach_row.specs.Row.{Row, RowIs}
+use Rattle.reach_row.specs.Laws.Changes.{not-yet, one-more, all-made}
+use Rattle.reach_row.specs.Laws.Row.{row-same}
+use Rattle.reach_rows.specs.Rows.{edgesOf, RowsAre, linked}
+use Rattle.reach_rows.specs.Laws.Rows.{rows-same, rows-say, rows-set}
 use Rattle.reach.specs.Reach.{takenOver, via}
 pub mod Exact
 

@@ -1,10 +1,12 @@
+// The reach: rows of edges closed, so that the row of an event has just the events that it comes to by zero edges or more.
 ghost use Prim.Native.Nat.{_+_, _<_};
 ghost use Rattle.theory.specs.Numbers.{EVENTS};
 ghost use Rattle.theory.specs.Graph.{Edges};
 ghost use Rattle.theory.specs.LoopTest.{through};
-ghost use Rattle.rows.specs.Rows.{RowsAre, Become};
+ghost use Rattle.reach_rows.specs.Rows.{RowsAre, Become};
 ghost use Rattle.reach.specs.Reach.{takenOver, via};
-use rows::Rows;
+use reach_rows::Rows;
+use theory::EVENTS;
 
 // The row of a, where it reaches k, takes over what the row of k reaches.
 fn take_over(rows: &mut Rows, a: u8, k: u8)
@@ -13,10 +15,10 @@ fn take_over(rows: &mut Rows, a: u8, k: u8)
 {
     let i = widths::index(a);
     let j = widths::index(k);
-    if rows::leads(rows, a, k) {
+    if reach_rows::leads(rows, a, k) {
         let x = rows[i];
         let y = rows[j];
-        let z = event_rows::joined(x, y);
+        let z = reach_row::joined(x, y);
         rows[i] = z;
     }
 }
@@ -25,8 +27,8 @@ fn take_over(rows: &mut Rows, a: u8, k: u8)
 fn own(rows: &mut Rows)
     ensures { λ _. ⌜ Become (λ E. through E 0) (now (rows .entry)) (now (rows .exit)) ⌝ }
 {
-    for a in 0..128 {
-        rows::link(rows, a, a, true);
+    for a in 0..EVENTS {
+        reach_rows::link(rows, a, a, true);
     }
 }
 
@@ -35,7 +37,7 @@ fn phase(rows: &mut Rows, k: u8)
     requires { ⌜ k < EVENTS ⌝ }
     ensures { λ _. ⌜ Become (via k) (now (rows .entry)) (now (rows .exit)) ⌝ }
 {
-    for a in 0..128 {
+    for a in 0..EVENTS {
         take_over(rows, a, k);
     }
 }
@@ -43,9 +45,14 @@ fn phase(rows: &mut Rows, k: u8)
 // The paths through k join those through events below it. Where no edge leaves k there are none.
 fn go_through(rows: &mut Rows, edges: &Rows, k: u8)
     requires { ⌜ k < EVENTS ⌝ }
-    ensures { λ _. ⌜ ((E : Edges) → RowsAre E (now (edges .entry)) → RowsAre (through E k) (now (rows .entry)) → RowsAre (through E (k + 1)) (now (rows .exit))) ⌝ }
+    ensures { λ _. ⌜
+        ((E : Edges)
+        → RowsAre E (now (edges .entry))
+        → RowsAre (through E k) (now (rows .entry))
+        → RowsAre (through E (k + 1)) (now (rows .exit)))
+        ⌝ }
 {
-    if event_rows::some(&edges[widths::index(k)]) {
+    if reach_row::some(&edges[widths::index(k)]) {
         phase(rows, k);
     }
 }
@@ -56,7 +63,7 @@ pub fn closed(edges: Rows) -> Rows
 {
     let mut rows = edges;
     own(&mut rows);
-    for k in 0..128 {
+    for k in 0..EVENTS {
         go_through(&mut rows, &edges, k);
     }
     rows

@@ -9,9 +9,9 @@ use Rattle.theory.specs.Instant.{requestFits}
 use Rattle.answers.specs.declared.Name.the-variants.{Request}
 use Rattle.answers.specs.declared.Verdict.{Verdict}
 use Rattle.answers.specs.declared.Verdict.the-variants.{Pass}
+use Rattle.answers.specs.Answers.{refuse}
 use Rattle.tables.specs.Asked as lent
 use Rattle.tables.specs.Asked.{Asked}
-use Rattle.answers.specs.Answers.{refuse}
 
 -- a request is within its limits
 abbrev pub fits : ℕ → lent.Request → Bool

@@ -1,36 +1,17 @@
--- The judge of lent tables, which are not trusted: TOO MANY rows; FIELD, the role count first and then the rows; LOOP (document 01, 'What comes back').
+-- The judge of lent rows, which are not trusted: TOO MANY rows; FIELD, the role count first and then the rows (document 01, 'What comes back').
 -- Assumes nothing.
 use mathlib.Core.Bool.{Bool, not, cond, _&&_}
-use mathlib.Core.List.{List}
 use Prim.Native.Nat.{ℕ, _+_, _-_}
 use lib.Dec.{leb, ltb}
 use Rattle.theory.specs.Numbers.{ROLES, PERIODIC-ROWS, TRIGGER-ROWS}
 use Rattle.theory.specs.Below.{firstBelow}
 use Rattle.theory.specs.Sheet.{Sheet, periodicFits, triggerFits}
-use Rattle.theory.specs.LoopTest.{PAIRS, loopPlace}
-use Rattle.answers.specs.declared.Name.the-variants.{Field, TooMany, Loop}
+use Rattle.answers.specs.declared.Name.the-variants.{Field, TooMany}
 use Rattle.answers.specs.declared.Verdict.{Verdict}
 use Rattle.answers.specs.declared.Verdict.the-variants.{Pass}
-use Rattle.answers.specs.Answers.{refuse, andThen}
-use Rattle.tables.specs.Layout.{sheetOf}
+use Rattle.answers.specs.Answers.{refuse}
 
--- All that is lent to be read: the tables, how many rows of each are used, and the role count.
-pub record Rules : Type 0 where
-  pub roleCount : ℕ
-  pub periodicCount : ℕ
-  pub triggerCount : ℕ
-  pub periodics : List ℕ
-  pub triggers : List ℕ
-
-abbrev pub rules : ℕ → ℕ → ℕ → List ℕ → List ℕ → Rules
-rules roleCount periodicCount triggerCount periodics triggers =
-    record { roleCount = roleCount; periodicCount = periodicCount; triggerCount = triggerCount; periodics = periodics; triggers = triggers }
-
--- the sheet that they stand for; unused rows, and the places of a trigger past its counts, are in no rule about it
-abbrev pub sheetIn : Rules → Sheet
-sheetIn R = sheetOf (R .roleCount) (R .periodicCount) (R .triggerCount) (R .periodics) (R .triggers)
-
--- TOO MANY is not given: neither count of rows is over its limit
+-- passes TOO MANY: neither count of rows is over its limit
 unfoldable pub fewRows : Sheet → Bool
 fewRows sh = leb (sh .periodicCount) PERIODIC-ROWS && leb (sh .triggerCount) TRIGGER-ROWS
 
@@ -61,11 +42,3 @@ judgeRows sh =
     (cond (ltb (firstUnfit sh) (rowCount sh)) (refuse Field (firstUnfit sh)) Pass)
     (refuse Field 0))
     (refuse TooMany 0)
-
--- LOOP at its place
-unfoldable pub judgeLoop : Sheet → Verdict
-judgeLoop sh = cond (ltb (loopPlace sh) PAIRS) (refuse Loop (loopPlace sh)) Pass
-
--- THE JUDGE of the tables
-unfoldable pub judgeTables : Sheet → Verdict
-judgeTables sh = andThen (judgeRows sh) (judgeLoop sh)

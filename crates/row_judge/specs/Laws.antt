@@ -1,23 +1,25 @@
--- Laws of the rows' verdict: which it is by its tests, and where the first row stands that does not hold what it may.
+-- Laws of the rows' verdict: a row by its number, the verdict by its tests, and that it looks at the used rows alone.
 -- Assumes nothing.
 use mathlib.Core.Path.{_≡_, refl, sym, ap, ap₂, _∙_}
 use mathlib.Core.Logic.{by-cases}
-use mathlib.Core.Bool.{Bool, true, false, not}
-use mathlib.Core.List.{List}
+use mathlib.Core.Bool.{Bool, true, false, not, _&&_}
 use Prim.Native.Nat.{ℕ, _+_, _-_, _≤_, _<_}
 use native.Mathlib.Decide.{decLt}
 use native.Mathlib.Omega.{arith}
-use borrow.Author.Tests.{lt-ltb, le-ltb}
+use lib.Dec.{leb}
+use borrow.Author.Tests.{leb-true, lt-ltb, le-ltb}
 use Rattle.theory.specs.Below.{firstBelow}
 use Rattle.theory.specs.Sheet.{Sheet, periodicFits, triggerFits}
-use Rattle.theory.specs.Laws.First.{first-low, first-high, first-same}
+use Rattle.theory.specs.Laws.Tests.{and-left, and-right}
+use Rattle.theory.specs.Laws.First.{first-same}
 use Rattle.answers.specs.declared.Name.the-variants.{Field, TooMany}
-use Rattle.answers.specs.declared.Verdict.{Verdict}
 use Rattle.answers.specs.declared.Verdict.the-variants.{Pass}
-use Rattle.tables.specs.Layout.{sheetOf}
 use Rattle.answers.specs.Answers.{refuse}
 use Rattle.row_judge.specs.Judge.{fewRows, rolesFit, rowCount, rowFits, firstUnfit, judgeRows}
-use Rattle.row_judge.specs.Parts.{unfitPeriodic, unfitTrigger, judgeFields}
+
+-- two limits at once
+pub limits-say : (a b c d : ℕ) → (leb a b && leb c d) ≡ true → (a ≤ b) × (c ≤ d)
+limits-say a b c d h = (leb-true a b (and-left (leb a b) (leb c d) h), leb-true c d (and-right (leb a b) (leb c d) h))
 
 module _ (sh : Sheet) where
   -- ---- a row by its number
@@ -26,12 +28,15 @@ module _ (sh : Sheet) where
   unfolding rowFits
   fits-periodic k l = rw (lt-ltb k (sh .periodicCount) l) refl
 
-  pub fits-trigger : (k : ℕ) → rowFits sh (sh .periodicCount + k) ≡ triggerFits (sh .roleCount) (sh .trigger k)
+  pub fits-after : (k : ℕ) → sh .periodicCount ≤ k → rowFits sh k ≡ triggerFits (sh .roleCount) (sh .trigger (k - sh .periodicCount))
   unfolding rowFits
+  fits-after k l = rw (le-ltb k (sh .periodicCount) l) refl
+
+  pub fits-trigger : (k : ℕ) → rowFits sh (sh .periodicCount + k) ≡ triggerFits (sh .roleCount) (sh .trigger k)
   fits-trigger k =
       let n : ℕ = sh .periodicCount in
       let e : n + k - n ≡ k = omega arith in
-      rw (le-ltb (n + k) n (omega arith), e) refl
+      fits-after (n + k) (omega arith) ∙ ap (λ (i : ℕ). triggerFits (sh .roleCount) (sh .trigger i)) e
 
   -- ---- the verdict by its tests
 
@@ -45,44 +50,14 @@ module _ (sh : Sheet) where
       unfolding judgeRows
       rows-roles r = rw (sym p ∙ f, sym q ∙ r) refl
 
-      pub rows-fields : fit ≡ true → (v : Verdict) → v ≡ judgeFields sh → v ≡ judgeRows sh
-      unfolding judgeRows judgeFields
-      rows-fields r v e = rw (sym p ∙ f, sym q ∙ r) e
+      module _ (r : fit ≡ true) (first : ℕ) (u : first ≡ firstUnfit sh) where
+        pub rows-unfit : first < rowCount sh → refuse Field first ≡ judgeRows sh
+        unfolding judgeRows
+        rows-unfit l = rw (sym p ∙ f, sym q ∙ r, sym u, lt-ltb first (rowCount sh) l) refl
 
-  module _ (first rows : ℕ) (p : first ≡ firstUnfit sh) (q : rows ≡ rowCount sh) where
-    pub fields-at : first < rows → refuse Field first ≡ judgeFields sh
-    unfolding judgeFields
-    fields-at l = rw (sym p, lt-ltb first (rowCount sh) (omega arith)) refl
-
-    pub fields-pass : rows ≤ first → Pass ≡ judgeFields sh
-    unfolding judgeFields
-    fields-pass l = rw (sym p, le-ltb first (rowCount sh) (omega arith)) refl
-
--- ---- the two searches, the periodic rows from 0 and the triggers from the periodic count on
-
-module _ (roleCount p t : ℕ) (periodics triggers : List ℕ) where
-  abbrev sh : Sheet
-  sh = sheetOf roleCount p t periodics triggers
-
-  unfitLow : (k : ℕ) → k < p → not (rowFits sh k) ≡ unfitPeriodic roleCount periodics k
-  unfolding sheetOf
-  unfitLow k l = ap not (fits-periodic sh k l)
-
-  unfitHigh : (k : ℕ) → not (rowFits sh (p + k)) ≡ unfitTrigger roleCount triggers k
-  unfolding sheetOf
-  unfitHigh k = ap not (fits-trigger sh k)
-
-  module _ (i : ℕ) (e : i ≡ firstBelow p (unfitPeriodic roleCount periodics)) where
-    pub unfit-periodic : i < p → i ≡ firstUnfit sh
-    unfolding firstUnfit sheetOf
-    unfit-periodic l =
-        e ∙ sym (first-low p t (λ k. not (rowFits sh k)) (unfitPeriodic roleCount periodics) (unfitTrigger roleCount triggers) unfitLow unfitHigh (omega arith))
-
-    pub unfit-trigger : p ≤ i → (j : ℕ) → j ≡ firstBelow t (unfitTrigger roleCount triggers) → p + j ≡ firstUnfit sh
-    unfolding firstUnfit sheetOf
-    unfit-trigger l j q =
-        ap (λ (m : ℕ). p + m) q
-        ∙ sym (first-high p t (λ k. not (rowFits sh k)) (unfitPeriodic roleCount periodics) (unfitTrigger roleCount triggers) unfitLow unfitHigh (omega arith))
+        pub rows-fit : rowCount sh ≤ first → Pass ≡ judgeRows sh
+        unfolding judgeRows
+        rows-fit l = rw (sym p ∙ f, sym q ∙ r, sym u, le-ltb first (rowCount sh) l) refl
 
 -- ---- the verdict looks at the used rows alone: sheets whose rows hold what they may alike are judged alike
 

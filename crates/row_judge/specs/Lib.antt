@@ -1,4 +1,3 @@
--- The judge of the lent rows, TOO MANY and FIELD, and the definition of the whole judge of lent tables.
+-- The judge of the lent rows: TOO MANY and FIELD.
 pub mod Judge
-pub mod Parts
 pub mod Laws

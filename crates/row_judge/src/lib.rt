@@ -1,123 +1,77 @@
+// The judge of lent rows, whatever the counts and the tables: TOO MANY, FIELD of the role count, FIELD at the first bad row, or a pass.
 ghost use mathlib.Core.Path.{_≡_};
 ghost use mathlib.Core.Bool.{_&&_};
-ghost use Prim.Native.Nat.{_+_};
+ghost use Prim.Native.Nat.{_≤_};
 ghost use lib.Dec.{leb};
 ghost use Rattle.theory.specs.Numbers.{ROLES, PERIODIC-ROWS, TRIGGER-ROWS};
-ghost use Rattle.theory.specs.Below.{firstBelow};
-ghost use Rattle.theory.specs.Sheet.{periodicFits};
-ghost use Rattle.tables.specs.Layout.{periodicAt, sheetOf};
-ghost use Rattle.row_judge.specs.Judge.{firstUnfit, judgeRows};
-ghost use Rattle.row_judge.specs.Parts.{unfitPeriodic, unfitTrigger, judgeFields};
+ghost use Rattle.tables.specs.Lent.{rules, sheetIn};
+ghost use Rattle.row_judge.specs.Judge.{rowFits, firstUnfit, judgeRows};
 use answers::Name;
-use answers::Refusal;
 use answers::Verdict;
-use basic::both;
+use answers::refuse;
+use tables::Counts;
+use theory::PERIODIC_ROWS;
+use theory::ROLES;
+use theory::TRIGGER_ROWS;
 
 // ---- FIELD of the rows
 
-// The number of row j after n rows of the other kind.
-fn row_place(n: u16, j: u16) -> u32
-    ensures { λ r. ⌜ r ≡ n + j ⌝ }
+// Row k holds what it may: the periodic rows from 0 and the triggers from the periodic count on.
+fn row_fits(counts: Counts, periodics: &[u8], triggers: &[u8], k: u16) -> bool
+    ensures { λ r. ⌜ r ≡ rowFits (sheetIn (rules counts (now (periodics .entry)) (now (triggers .entry)))) k ⌝ }
 {
-    n as u32 + j as u32
+    if k < counts.periodics {
+        let row = periodics::periodic_row(periodics, k);
+        return periodic_limits::periodic_fits(row, counts.roles);
+    }
+    trigger_limits::trigger_fits(triggers, k - counts.periodics, counts.roles)
 }
 
-// Row i of a periodic table holds what it may.
-fn periodic_fits(periodics: &[u8], i: u16, roles: u8) -> bool
-    ensures { λ r. ⌜ r ≡ periodicFits roles (periodicAt (now (periodics .entry)) i) ⌝ }
+// The first row that does not; the number of rows where all do. (For the judge alone, which has shown that the rows are few.)
+fn first_unfit(counts: Counts, periodics: &[u8], triggers: &[u8]) -> u16
+    requires { ⌜ (counts .periodics ≤ PERIODIC-ROWS) × (counts .triggers ≤ TRIGGER-ROWS) ⌝ }
+    ensures { λ r. ⌜ r ≡ firstUnfit (sheetIn (rules counts (now (periodics .entry)) (now (triggers .entry)))) ⌝ }
 {
-    let row = periodics::periodic_row(periodics, i);
-    limits::periodic_fits(row, roles)
-}
-
-// The first of n periodic rows that does not hold what it may; n where all do.
-fn first_periodic(periodics: &[u8], n: u16, roles: u8) -> u16
-    ensures { λ r. ⌜ r ≡ firstBelow n (unfitPeriodic roles (now (periodics .entry))) ⌝ }
-{
-    let mut i: u16 = 0;
-    while i < n {
-        if !periodic_fits(periodics, i, roles) {
-            return i;
+    let rows = counts.periodics + counts.triggers;
+    let mut k: u16 = 0;
+    while k < rows {
+        if !row_fits(counts, periodics, triggers, k) {
+            return k;
         }
-        i += 1;
+        k += 1;
     }
-    n
-}
-
-// The first of n triggers that does not hold what it may; n where all do.
-fn first_trigger(triggers: &[u8], n: u16, roles: u8) -> u16
-    ensures { λ r. ⌜ r ≡ firstBelow n (unfitTrigger roles (now (triggers .entry))) ⌝ }
-{
-    let mut i: u16 = 0;
-    while i < n {
-        if !trigger_limits::trigger_fits(triggers, i, roles) {
-            return i;
-        }
-        i += 1;
-    }
-    n
-}
-
-// The first row that does not hold what it may, the periodic rows from 0 and the triggers from the periodic count on; the number of rows where all do.
-fn first_unfit(roles: u8, p: u16, t: u16, periodics: &[u8], triggers: &[u8]) -> u32
-    ensures { λ r. ⌜ r ≡ firstUnfit (sheetOf roles p t (now (periodics .entry)) (now (triggers .entry))) ⌝ }
-{
-    let i = first_periodic(periodics, p, roles);
-    if i < p {
-        return row_place(0, i);
-    }
-    let j = first_trigger(triggers, t, roles);
-    row_place(p, j)
-}
-
-// FIELD at the first row that does not hold what it may.
-fn fields_judged(roles: u8, p: u16, t: u16, periodics: &[u8], triggers: &[u8]) -> Verdict
-    ensures { λ r. ⌜ r ≡ judgeFields (sheetOf roles p t (now (periodics .entry)) (now (triggers .entry))) ⌝ }
-{
-    let first = first_unfit(roles, p, t, periodics, triggers);
-    let rows = row_place(p, t);
-    if first < rows {
-        return Verdict::Refuse(Refusal {
-            name: Name::Field,
-            place: first,
-        });
-    }
-    Verdict::Pass
+    rows
 }
 
 // ---- the counts, then the rows
 
-// TOO MANY is not given.
-fn few_rows(p: u16, t: u16) -> bool
-    ensures { λ r. ⌜ r ≡ (leb p PERIODIC-ROWS && leb t TRIGGER-ROWS) ⌝ }
+// The counts pass TOO MANY.
+fn few_rows(counts: Counts) -> bool
+    ensures { λ r. ⌜ r ≡ (leb (counts .periodics) PERIODIC-ROWS && leb (counts .triggers) TRIGGER-ROWS) ⌝ }
 {
-    both(p <= 128, t <= 256)
+    (counts.periodics <= PERIODIC_ROWS) & (counts.triggers <= TRIGGER_ROWS)
 }
 
 // The role count is 1 to 64.
 fn roles_fit(roles: u8) -> bool
     ensures { λ r. ⌜ r ≡ (leb 1 roles && leb roles ROLES) ⌝ }
 {
-    both(1 <= roles, roles <= 64)
+    (1 <= roles) & (roles <= ROLES)
 }
 
 // TOO MANY, then FIELD of the role count, then FIELD of the rows.
-pub fn rows_judged(roles: u8, p: u16, t: u16, periodics: &[u8], triggers: &[u8]) -> Verdict
-    ensures { λ r. ⌜ r ≡ judgeRows (sheetOf roles p t (now (periodics .entry)) (now (triggers .entry))) ⌝ }
+pub fn rows_judged(counts: Counts, periodics: &[u8], triggers: &[u8]) -> Verdict
+    ensures { λ r. ⌜ r ≡ judgeRows (sheetIn (rules counts (now (periodics .entry)) (now (triggers .entry)))) ⌝ }
 {
-    let few = few_rows(p, t);
-    let fit = roles_fit(roles);
-    if few {
-        if fit {
-            return fields_judged(roles, p, t, periodics, triggers);
-        }
-        return Verdict::Refuse(Refusal {
-            name: Name::Field,
-            place: 0,
-        });
+    if !few_rows(counts) {
+        return refuse(Name::TooMany, 0);
     }
-    Verdict::Refuse(Refusal {
-        name: Name::TooMany,
-        place: 0,
-    })
+    if !roles_fit(counts.roles) {
+        return refuse(Name::Field, 0);
+    }
+    let first = first_unfit(counts, periodics, triggers);
+    if first < counts.periodics + counts.triggers {
+        return refuse(Name::Field, first as u32);
+    }
+    Verdict::Pass
 }

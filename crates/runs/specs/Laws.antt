@@ -18,13 +18,13 @@ use Rattle.answers.specs.declared.Verdict.the-variants.{Pass}
 use Rattle.tables.specs.Layout.{sheetOf}
 use Rattle.tables.specs.Buffers.{rolesOf, eventsOf, waitingOf}
 use Rattle.tables.specs.Asked.{Asked, asks}
+use Rattle.tables.specs.Lent.{Rules, sheetIn, Lent, stateIn}
+use Rattle.table_judge.specs.Laws.{judge-passes}
 use Rattle.masks.specs.Laws.Bits.{bit-none}
 use Rattle.masks.specs.Laws.Held.{waiting-none}
-use Rattle.row_judge.specs.Judge.{Rules, sheetIn}
-use Rattle.judge.specs.Laws.{judge-passes}
 use Rattle.requests.specs.Laws.{asks-elim, requests-pass}
-use Rattle.step.specs.Outcome.{Lent, stateIn, Outcome}
-use Rattle.step.specs.Laws.Passes.{Accepted, step-passes}
+use Rattle.step.specs.Outcome.{Outcome}
+use Rattle.step.specs.Laws.Passes.{StepAccepted, step-passes}
 use Rattle.step.specs.Laws.Used.{outcome-used}
 use Rattle.runs.specs.Runs.{HandedOn, Steps, GoesOn, IsPapers}
 
@@ -45,7 +45,7 @@ module _ (n : ℕ) (R : Rules) (tables : ℕ → Rules) (asked : ℕ → Asked) 
   passes = under-sheet (suc n) R tables asked before after steps
 
   -- what each step tested
-  accepted : (t : ℕ) → t < suc n → Accepted R (asked t) (before t)
+  accepted : (t : ℕ) → t < suc n → StepAccepted R (asked t) (before t)
   accepted t l = step-passes R (asked t) (before t) (sym (passes t l .judged))
 
   good : GoodOrder sh × NoLoop sh
@@ -71,10 +71,10 @@ module _ (n : ℕ) (R : Rules) (tables : ℕ → Rules) (asked : ℕ → Asked) 
         by-cases (decLt t (suc n))
         (λ (l : t < suc n).
         let r = asks-elim (asked t) d e p (sym (goes .asked-first t d e p l) ∙ h) in
-        let k : requestFits (R .roleCount) (asked t .request (r .0) .delay) (asked t .request (r .0) .event) (asked t .request (r .0) .priority) ≡ true
-        = requests-pass (R .roleCount) (asked t) (accepted t l .requests) (r .0) (r .1) in
-        is-only (requestFits (R .roleCount) d) (asked t .request (r .0) .event) (asked t .request (r .0) .priority) e p (r .3)
-        (subst (λ (x : ℕ). requestFits (R .roleCount) x (asked t .request (r .0) .event) (asked t .request (r .0) .priority) ≡ true) (r .2) k))
+        let k : requestFits (R .counts .roles) (asked t .request (r .0) .delay) (asked t .request (r .0) .event) (asked t .request (r .0) .priority) ≡ true
+        = requests-pass (R .counts .roles) (asked t) (accepted t l .requests) (r .0) (r .1) in
+        is-only (requestFits (R .counts .roles) d) (asked t .request (r .0) .event) (asked t .request (r .0) .priority) e p (r .3)
+        (subst (λ (x : ℕ). requestFits (R .counts .roles) x (asked t .request (r .0) .event) (asked t .request (r .0) .priority) ≡ true) (r .2) k))
         (λ (l : ¬ (t < suc n)). goes .within t d e p (omega arith) h)
 
     run : Run (suc n) noRoles sh RQ state (λ t. eventsOf (after t .events))

@@ -10,8 +10,8 @@ use Rattle.theory.specs.Model.{Stream, Trace, ExecutionModel, noRoles}
 use Rattle.answers.specs.declared.Verdict.the-variants.{Pass}
 use Rattle.tables.specs.Buffers.{rolesOf, eventsOf}
 use Rattle.tables.specs.Asked.{Asked, asks}
-use Rattle.row_judge.specs.Judge.{Rules, sheetIn}
-use Rattle.step.specs.Outcome.{Lent, Outcome}
+use Rattle.tables.specs.Lent.{Rules, sheetIn, Lent}
+use Rattle.step.specs.Outcome.{Outcome}
 use Rattle.step.specs.Used.{SameRules}
 
 -- instant 0, no roles, all zeros; an events buffer may hold anything
@@ -37,7 +37,7 @@ pub record Steps (n : ℕ) (R : Rules) (tables : ℕ → Rules) (asked : ℕ →
 -- A request stream that goes on from those requests: theirs in the first n instants, and within the limits in all later ones.
 pub record GoesOn (n : ℕ) (R : Rules) (asked : ℕ → Asked) (RQ : Stream) : Type 0 where
   pub asked-first : (t d e p : ℕ) → t < n → RQ t d e p ≡ asks (asked t) d e p
-  pub within : (t d e p : ℕ) → n ≤ t → RQ t d e p ≡ true → requestFits (R .roleCount) d e p ≡ true
+  pub within : (t d e p : ℕ) → n ≤ t → RQ t d e p ≡ true → requestFits (R .counts .roles) d e p ≡ true
 
 -- The steps agree with a trace: in the events handed out at each instant, and in the roles before and after it.
 pub record Agrees (n : ℕ) (before after : ℕ → Lent) (tr : Trace) : Type 0 where

@@ -12,8 +12,8 @@ use Rattle.theory.specs.Sheet.{Sheet}
 use Rattle.theory.specs.Instant.{ready, Closed, IsLeast}
 use Rattle.theory.specs.Graph.{counts}
 use Rattle.theory.specs.Laws.Levels.{up, levels-stratified, ready-counts}
-use Rattle.theory.specs.Stage.{Keys, keyOf, Reached}
-use Rattle.theory.specs.Laws.Stage.{keys-are, reached-last}
+use Rattle.theory.specs.Solving.{Keys, keyOf, Reached}
+use Rattle.theory.specs.Laws.Solving.{keys-are, reached-last}
 use Rattle.tables.specs.Layout.{byteAt, sheetOf, triggersOf}
 use Rattle.tables.specs.Buffers.{rolesOf, eventsOf}
 use Rattle.keys.specs.Keys.{KEYS, keyIn}

@@ -2,42 +2,27 @@
 -- Assumes nothing.
 use mathlib.Core.Path.{_≡_}
 use mathlib.Core.Bool.{Bool, cond}
-use mathlib.Core.List.{List}
-use Prim.Native.Nat.{ℕ}
 use lib.Dec.{leb}
 use lib.ListN.{length}
 use Rattle.theory.specs.Numbers.{EVENTS, LAST-INSTANT, REQUESTS, WAITING-NUMBERS}
-use Rattle.theory.specs.Box.{State, Step}
+use Rattle.theory.specs.Box.{Step}
 use Rattle.answers.specs.declared.Name.the-variants.{Length, TooMany, Last}
 use Rattle.answers.specs.declared.Refusal.{Refusal}
 use Rattle.answers.specs.declared.Verdict.{Verdict}
-use Rattle.answers.specs.declared.Verdict.the-variants.{Pass, Refuse}
-use Rattle.tables.specs.Buffers.{rolesOf, eventsOf, waitingOf}
-use Rattle.tables.specs.Asked.{Asked, asks}
+use Rattle.answers.specs.declared.Verdict.the-variants.{Pass, Refused}
 use Rattle.answers.specs.Answers.{refuse, andThen}
-use Rattle.row_judge.specs.Judge.{Rules, sheetIn, judgeTables}
-use Rattle.order.specs.Order.{exactLengths}
+use Rattle.tables.specs.Buffers.{eventsOf}
+use Rattle.tables.specs.Asked.{Asked, asks}
+use Rattle.tables.specs.Lent.{Rules, sheetIn, Lent, stateIn}
+use Rattle.table_judge.specs.Judge.{judgeTables}
 use Rattle.requests.specs.Requests.{judgeRequests}
-
--- All that a step can change: the next instant, the enabled roles, the waiting buffer and the events buffer, as they are lent.
-pub record Lent : Type 0 where
-  pub instant : ℕ
-  pub roles : ℕ
-  pub waiting : List ℕ
-  pub events : List ℕ
-
-abbrev pub lent : ℕ → ℕ → List ℕ → List ℕ → Lent
-lent t r w e = record { instant = t; roles = r; waiting = w; events = e }
-
--- the state in them
-abbrev pub stateIn : Lent → State
-stateIn l = record { instant = l .instant; roles = rolesOf (l .roles); waiting = waitingOf (l .waiting) }
+use Rattle.step_tests.specs.Order.{exactLengths}
 
 -- ---- the refusals
 
--- LENGTH is not given: the tables and the buffers have their exact lengths
+-- passes LENGTH: the tables and the buffers have their exact lengths
 unfoldable pub lengthsFit : Rules → Lent → Bool
-lengthsFit R l = exactLengths (length (R .periodics)) (length (R .triggers)) (length (l .waiting)) (length (l .events))
+lengthsFit R l = exactLengths (length (R .tables .periodics)) (length (R .tables .triggers)) (length (l .waiting)) (length (l .events))
 
 -- THE VERDICT: LENGTH, LAST, TOO MANY (of requests and of rows), FIELD, LOOP, REQUEST in order
 unfoldable pub judgeStep : Rules → Asked → Lent → Verdict
@@ -45,7 +30,7 @@ judgeStep R q l =
     cond (lengthsFit R l)
     (cond (leb (l .instant) LAST-INSTANT)
     (cond (leb (q .count) REQUESTS)
-    (andThen (judgeTables (sheetIn R)) (judgeRequests (R .roleCount) q))
+    (andThen (judgeTables (sheetIn R)) (judgeRequests (R .counts .roles) q))
     (refuse TooMany 0))
     (refuse Last 0))
     (refuse Length 0)
@@ -61,5 +46,5 @@ pub record Stepped (R : Rules) (q : Asked) (before after : Lent) : Type 0 where
 -- THE OUTCOME: the verdict; after a refusal all is what it was, and else a step was made.
 pub record Outcome (R : Rules) (q : Asked) (before : Lent) (v : Verdict) (after : Lent) : Type 0 where
   pub judged : v ≡ judgeStep R q before
-  pub refused : (r : Refusal) → v ≡ Refuse r → after ≡ before
+  pub refused : (r : Refusal) → v ≡ Refused r → after ≡ before
   pub passed : v ≡ Pass → Stepped R q before after

@@ -1,28 +1,18 @@
-ghost use mathlib.Core.Path.{_≡_};
+// One step, of whatever is lent: the first refusal in document 01's order, and all as it was; or the solution, what waits, the roles after.
 ghost use Prim.Native.Nat.{_≤_};
 ghost use Rattle.theory.specs.Numbers.{LAST-INSTANT};
-ghost use Rattle.answers.specs.Answers.{andThen};
 ghost use Rattle.tables.specs.Asked.{flat};
-ghost use Rattle.row_judge.specs.Judge.{rules};
-ghost use Rattle.step.specs.Outcome.{lent, Outcome};
+ghost use Rattle.tables.specs.Lent.{rules, lent};
+ghost use Rattle.step.specs.Outcome.{Outcome};
 ghost use Rattle.step.specs.Parts.{Sized, Inner};
 use answers::Verdict;
+use answers::and_then;
+use requests::FLAT_NUMBERS;
+use tables::Counts;
 
-// A later test is asked only where those before it pass.
-fn and_then(first: Verdict, later: Verdict) -> Verdict
-    ensures { λ r. ⌜ r ≡ andThen first later ⌝ }
-{
-    match first {
-        Verdict::Pass => later,
-        Verdict::Refuse(r) => Verdict::Refuse(r),
-    }
-}
-
-// A step, once LENGTH, LAST and TOO MANY of requests are not given: the tables and the requests are judged, and then it acts.
+// A step that passed LENGTH, LAST and TOO MANY of requests: the tables and the requests are judged, and then it acts.
 fn step_within(
-    roles: u8,
-    periodic_count: u16,
-    trigger_count: u16,
+    counts: Counts,
     periodics: &[u8],
     triggers: &[u8],
     asked: &[u8],
@@ -33,23 +23,29 @@ fn step_within(
     events: &mut [u16],
 ) -> Verdict
     requires { ⌜ (now instant ≤ LAST-INSTANT) × Sized (now waiting) (now events) ⌝ }
-    ensures { λ r. ⌜ Inner (rules roles «periodic_count» «trigger_count» (now (periodics .entry)) (now (triggers .entry))) (flat (now (asked .entry)) m) (lent (now (instant .entry)) (now (enabled .entry)) (now (waiting .entry)) (now (events .entry))) r (lent (now (instant .exit)) (now (enabled .exit)) (now (waiting .exit)) (now (events .exit))) ⌝ }
+    ensures { λ r. ⌜
+        Inner
+        (rules counts (now (periodics .entry)) (now (triggers .entry)))
+        (flat (now (asked .entry)) m)
+        (lent (now (instant .entry)) (now (enabled .entry)) (now (waiting .entry)) (now (events .entry)))
+        r
+        (lent (now (instant .exit)) (now (enabled .exit)) (now (waiting .exit)) (now (events .exit)))
+        ⌝ }
 {
-    let judged = judge::judge(roles, periodic_count, trigger_count, periodics, triggers);
+    let judged = table_judge::judge(counts, periodics, triggers);
     let levels = judged.levels;
     let tables = judged.verdict;
-    let requests = requests::judge_requests(roles, asked, m);
+    let requests = requests::judge_requests(counts.roles, asked, m);
     let verdict = and_then(tables, requests);
     match verdict {
         Verdict::Pass => {
-            minute::act(
-                periodic_count,
-                trigger_count,
+            instant::act(
+                counts,
                 periodics,
                 triggers,
                 asked,
                 m,
-                levels,
+                &levels,
                 instant,
                 enabled,
                 waiting,
@@ -57,27 +53,32 @@ fn step_within(
             );
             Verdict::Pass
         }
-        Verdict::Refuse(r) => Verdict::Refuse(r),
+        Verdict::Refused(r) => Verdict::Refused(r),
     }
 }
 
 // One step, of whatever is lent. The requests are flat numbers, event, priority and delay of each; only the first n count, and n over 32 is TOO MANY.
 pub fn step(
-    roles: u8,
-    periodic_count: u16,
-    trigger_count: u16,
+    counts: Counts,
     periodics: &[u8],
     triggers: &[u8],
-    asked: [u8; 96],
+    asked: [u8; FLAT_NUMBERS],
     n: usize,
     instant: &mut u32,
     enabled: &mut u64,
     waiting: &mut [u16],
     events: &mut [u16],
 ) -> Verdict
-    ensures { λ r. ⌜ Outcome (rules roles «periodic_count» «trigger_count» (now (periodics .entry)) (now (triggers .entry))) (flat asked n) (lent (now (instant .entry)) (now (enabled .entry)) (now (waiting .entry)) (now (events .entry))) r (lent (now (instant .exit)) (now (enabled .exit)) (now (waiting .exit)) (now (events .exit))) ⌝ }
+    ensures { λ r. ⌜
+        Outcome
+        (rules counts (now (periodics .entry)) (now (triggers .entry)))
+        (flat asked n)
+        (lent (now (instant .entry)) (now (enabled .entry)) (now (waiting .entry)) (now (events .entry)))
+        r
+        (lent (now (instant .exit)) (now (enabled .exit)) (now (waiting .exit)) (now (events .exit)))
+        ⌝ }
 {
-    let first = order::judge_first(
+    let first = step_tests::judge_first(
         periodics.len(),
         triggers.len(),
         waiting.len(),
@@ -87,9 +88,7 @@ pub fn step(
     );
     match first {
         Verdict::Pass => step_within(
-            roles,
-            periodic_count,
-            trigger_count,
+            counts,
             periodics,
             triggers,
             &asked,
@@ -99,6 +98,6 @@ pub fn step(
             waiting,
             events,
         ),
-        Verdict::Refuse(refused) => Verdict::Refuse(refused),
+        Verdict::Refused(refused) => Verdict::Refused(refused),
     }
 }

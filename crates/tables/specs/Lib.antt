@@ -2,5 +2,6 @@
 pub mod Layout
 pub mod Buffers
 pub mod Asked
+pub mod Lent
 pub mod Used
 pub mod Laws

@@ -1,4 +1,4 @@
 -- What is proved of a tape.
 pub mod Line
-pub mod Accepted
+pub mod Fine
 pub mod Exact

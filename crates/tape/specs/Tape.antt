@@ -7,26 +7,27 @@ use lib.Dec.{eqb}
 use Rattle.theory.specs.Sheet.{is}
 use Rattle.theory.specs.Model.{Stream}
 use Rattle.answers.specs.declared.Name.the-variants.{Kind}
+use Rattle.answers.specs.Answers.{refusal}
 use Rattle.text.specs.Lines.{Lines, none, endless, line, lines}
 use Rattle.frames.specs.Frame.{bytesOf}
-use Rattle.walks.specs.Walks.{Going, goes, refused, byVerdict, Reader, walks}
+use Rattle.line_readers.specs.Walks.{Going, goes, refused, byVerdict, Reader, walks}
 use Rattle.kinds.specs.Kinds.{kind}
 use Rattle.tape_frames.specs.Frame.{ASK, instantOf, askedIn}
 use Rattle.tape_tests.specs.declared.Heard.{Heard}
-use Rattle.tape_tests.specs.Tape.{judgeTape}
+use Rattle.tape_tests.specs.Tests.{judgeTape}
 
 -- ---- the lines
 
 -- how many requests in a row are of instant t, with one more of it
-unfoldable pub rowWith : Heard → ℕ → ℕ
-rowWith s t = cond (eqb t (s .instant)) (s .row + 1) 1
+unfoldable pub manyWith : Heard → ℕ → ℕ
+manyWith s t = cond (eqb t (s .instant)) (s .many + 1) 1
 
 -- a request, or else the end
 unfoldable pub heardAfter : Heard → List ℕ → Heard
 heardAfter s f =
     cond (eqb (kind f) ASK)
-    (record { line = s .line + 1; ended = false; instant = instantOf f; row = rowWith s (instantOf f); last = s .last })
-    (record { line = s .line + 1; ended = true; instant = s .instant; row = s .row; last = instantOf f })
+    (record { line = s .line + 1; ended = false; instant = instantOf f; many = manyWith s (instantOf f); last = s .last })
+    (record { line = s .line + 1; ended = true; instant = s .instant; many = s .many; last = instantOf f })
 
 -- THE LINE: its tests, at the line after those that were read, and what it does
 unfoldable pub tapeStep : ℕ → Heard → List ℕ → Going Heard
@@ -34,7 +35,7 @@ tapeStep roles s l = byVerdict (judgeTape (s .line + 1) roles s l) (heardAfter s
 
 -- after the last line: the end was there, else KIND at the line after it
 unfoldable pub tapeEnds : Heard → Going Heard
-tapeEnds s = cond (s .ended) (goes s) (refused (record { name = Kind; place = s .line + 1 }))
+tapeEnds s = cond (s .ended) (goes s) (refused (refusal Kind (s .line + 1)))
 
 -- the reader of a tape
 abbrev pub tapeReader : ℕ → Reader Heard
@@ -42,7 +43,7 @@ tapeReader roles = record { read = λ s. s .line; takes = tapeStep roles; ends =
 
 -- before the first line of a tape, after so many lines of a sheet
 abbrev pub unheard : ℕ → Heard
-unheard before = record { line = before; ended = false; instant = 0; row = 0; last = 0 }
+unheard before = record { line = before; ended = false; instant = 0; many = 0; last = 0 }
 
 -- THE TAPE: its lines in order, with a role count, after so many lines of a sheet
 abbrev pub tapeRead : ℕ → ℕ → List ℕ → Going Heard

@@ -1,31 +1,33 @@
+// Reads a tape to its end: the first refusal, at its line in the whole input, or what was heard, with the last instant.
 ghost use mathlib.Core.Path.{_≡_};
 ghost use mathlib.Core.Bool.{true};
 ghost use Prim.Native.Nat.{_≤_, _<_};
 ghost use lib.ListN.{length};
 ghost use Rattle.frames.specs.Frame.{bytesOf};
-ghost use Rattle.tape_tests.specs.Tape.{roomForRequest};
-ghost use Rattle.tape.specs.Tape.{rowWith, heardAfter, tapeStep, tapeEnds, tapeRead};
+ghost use Rattle.tape_tests.specs.Tests.{roomForRequest};
+ghost use Rattle.tape.specs.Tape.{manyWith, heardAfter, tapeStep, tapeEnds, tapeRead};
 ghost use Rattle.tape.specs.Took.{took};
 use answers::Name;
 use answers::Refusal;
 use answers::Verdict;
 use frames::byte_at;
+use tape_frames::ASK;
 use tape_frames::instant_of;
 use tape_tests::Heard;
 
 // What came of a line, or of all of them.
-pub enum Tape {
+pub enum Taken {
     Goes(Heard),
     Refused(Refusal),
 }
 
 // How many requests in a row are of instant t, with one more of it.
 fn one_more(s: Heard, t: u32) -> u8
-    requires { ⌜ (t ≡ s .instant → s .row < 32) ⌝ }
-    ensures { λ r. ⌜ r ≡ rowWith s t ⌝ }
+    requires { ⌜ (t ≡ s .instant → s .many < 32) ⌝ }
+    ensures { λ r. ⌜ r ≡ manyWith s t ⌝ }
 {
     if t == s.instant {
-        return s.row + 1;
+        return s.many + 1;
     }
     1
 }
@@ -36,12 +38,12 @@ fn heard_after(line: &[u8], s: Heard) -> Heard
     ensures { λ r. ⌜ r ≡ heardAfter s (bytesOf (now (line .entry))) ⌝ }
 {
     let t = instant_of(line);
-    if byte_at(line, 0) == 64 {
+    if byte_at(line, 0) == ASK {
         return Heard {
             line: s.line + 1,
             ended: false,
             instant: t,
-            row: one_more(s, t),
+            many: one_more(s, t),
             last: s.last,
         };
     }
@@ -49,39 +51,36 @@ fn heard_after(line: &[u8], s: Heard) -> Heard
         line: s.line + 1,
         ended: true,
         instant: s.instant,
-        row: s.row,
+        many: s.many,
         last: t,
     }
 }
 
 // One line: its tests, and what it does.
-fn take(line: &[u8], roles: u8, s: Heard) -> Tape
+fn take(line: &[u8], roles: u8, s: Heard) -> Taken
     requires { ⌜ s .line < 131072 ⌝ }
     ensures { λ r. ⌜ took r ≡ tapeStep roles s (now (line .entry)) ⌝ }
 {
     let v = tape_tests::tape_judged(line, roles, s, s.line + 1);
     match v {
-        Verdict::Pass => Tape::Goes(heard_after(line, s)),
-        Verdict::Refuse(r) => Tape::Refused(r),
+        Verdict::Pass => Taken::Goes(heard_after(line, s)),
+        Verdict::Refused(r) => Taken::Refused(r),
     }
 }
 
 // After the last line.
-fn at_end(s: Heard) -> Tape
+fn at_end(s: Heard) -> Taken
     requires { ⌜ s .line ≤ 131072 ⌝ }
     ensures { λ r. ⌜ took r ≡ tapeEnds s ⌝ }
 {
     if s.ended {
-        return Tape::Goes(s);
+        return Taken::Goes(s);
     }
-    Tape::Refused(Refusal {
-        name: Name::Kind,
-        place: s.line + 1,
-    })
+    Taken::Refused(answers::refusal_of(Name::Kind, s.line + 1))
 }
 
-// Reads a tape that stands after so many lines of a sheet, for so many roles. (For `openings` alone, which has tested LENGTH.)
-pub fn read_tape(tape: &[u8], roles: u8, before: u32) -> Tape
+// Reads a tape that stands after so many lines of a sheet, for so many roles. (For `day_input` alone, which has tested LENGTH.)
+pub fn read_tape(tape: &[u8], roles: u8, before: u32) -> Taken
     requires { ⌜ (length (now tape) ≤ 65536) × (before ≤ 65536) ⌝ }
     ensures { λ r. ⌜ took r ≡ tapeRead roles before (now (tape .entry)) ⌝ }
 {
@@ -89,26 +88,23 @@ pub fn read_tape(tape: &[u8], roles: u8, before: u32) -> Tape
         line: before,
         ended: false,
         instant: 0,
-        row: 0,
+        many: 0,
         last: 0,
     };
     let mut at: usize = 0;
     while at < tape.len() {
         let e = text::line_end(tape, at);
         if e == tape.len() {
-            return Tape::Refused(Refusal {
-                name: Name::Frame,
-                place: s.line + 1,
-            });
+            return Taken::Refused(answers::refusal_of(Name::Frame, s.line + 1));
         }
         let w = take(&tape[at..e], roles, s);
         match w {
-            Tape::Goes(n) => {
+            Taken::Goes(n) => {
                 s = n;
                 at = e + 1;
             }
-            Tape::Refused(r) => {
-                return Tape::Refused(r);
+            Taken::Refused(r) => {
+                return Taken::Refused(r);
             }
         }
     }

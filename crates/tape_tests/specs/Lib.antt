@@ -1,2 +1,2 @@
 -- The tests of a line of a tape, in their order.
-pub mod Tape
+pub mod Tests

@@ -1,15 +1,22 @@
+// The tests of a line of a tape, in order: FRAME, CHECK, KIND, TOO MANY, FIELD, REQUEST. The first that fails refuses it, at the place handed in.
 ghost use mathlib.Core.Path.{_≡_};
 ghost use Rattle.frames.specs.Frame.{bytesOf};
 ghost use Rattle.tape_frames.specs.Frame.{instantOf};
-ghost use Rattle.tape_tests.specs.Tape.{tapeSize, ofTape, roomForRequest, inTime, askFits, judgeTape};
+ghost use Rattle.tape_tests.specs.Tests.{tapeSize, ofTape, roomForRequest, inTime, askFits, judgeTape};
 use answers::Name;
 use answers::Verdict;
-use basic::both;
-use basic::either;
 use frames::byte_at;
-use line_order::Tests;
+use line_readers::Tests;
+use tape_frames::ASK;
+use tape_frames::TAPE_END;
 use tape_frames::asked_in;
 use tape_frames::instant_of;
+
+// The last instant of a day is at most this.
+const LONGEST_DAY: u32 = 10080;
+
+// The most requests in a row of one instant.
+const REQUESTS: u8 = 32;
 
 // What was read of a tape so far: how many lines of the whole input, whether the end was there, the instant of the last request and how many requests in a row are of it,
 // and the last instant that the end said. (Before the first request the instant is 0, and none is of it.)
@@ -17,7 +24,7 @@ pub struct Heard {
     pub line: u32,
     pub ended: bool,
     pub instant: u32,
-    pub row: u8,
+    pub many: u8,
     pub last: u32,
 }
 
@@ -25,50 +32,50 @@ pub struct Heard {
 fn size_of(k: u8) -> usize
     ensures { λ r. ⌜ r ≡ tapeSize k ⌝ }
 {
-    if k == 64 {
+    if k == ASK {
         return 9;
     }
-    if k == 241 {
+    if k == TAPE_END {
         return 6;
     }
     0
 }
 
-// KIND is not given.
+// A line's frame passes KIND.
 fn of_tape(line: &[u8], s: Heard) -> bool
     ensures { λ r. ⌜ r ≡ ofTape s (bytesOf (now (line .entry))) ⌝ }
 {
     let sized = frames::count(line) == size_of(byte_at(line, 0));
-    both(sized, !s.ended)
+    sized & !s.ended
 }
 
-// TOO MANY is not given, for a frame of instant t.
+// A frame of instant t passes TOO MANY.
 fn has_room(line: &[u8], t: u32, s: Heard) -> bool
     requires { ⌜ t ≡ instantOf (bytesOf (now line)) ⌝ }
     ensures { λ r. ⌜ r ≡ roomForRequest s (bytesOf (now (line .entry))) ⌝ }
 {
-    if byte_at(line, 0) == 64 {
-        return either(t != s.instant, s.row < 32);
+    if byte_at(line, 0) == ASK {
+        return (t != s.instant) | (s.many < REQUESTS);
     }
     true
 }
 
-// FIELD is not given, for a frame of instant t.
+// A frame of instant t passes FIELD.
 fn in_time(line: &[u8], t: u32, s: Heard) -> bool
     requires { ⌜ t ≡ instantOf (bytesOf (now line)) ⌝ }
     ensures { λ r. ⌜ r ≡ inTime s (bytesOf (now (line .entry))) ⌝ }
 {
-    if byte_at(line, 0) == 241 {
-        return both(s.instant <= t, t <= 10080);
+    if byte_at(line, 0) == TAPE_END {
+        return (s.instant <= t) & (t <= LONGEST_DAY);
     }
     s.instant <= t
 }
 
-// REQUEST is not given.
+// A line's frame passes REQUEST.
 fn ask_fits(line: &[u8], roles: u8) -> bool
     ensures { λ r. ⌜ r ≡ askFits roles (bytesOf (now (line .entry))) ⌝ }
 {
-    if byte_at(line, 0) == 64 {
+    if byte_at(line, 0) == ASK {
         return requests::request_fits(roles, asked_in(line));
     }
     true
@@ -93,5 +100,5 @@ pub fn tape_judged(line: &[u8], roles: u8, s: Heard, place: u32) -> Verdict
         field: field,
         last: request,
     };
-    line_order::in_order(tests, Name::Request, place)
+    line_readers::in_order(tests, Name::Request, place)
 }

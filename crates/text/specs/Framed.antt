@@ -19,6 +19,6 @@ firstBad (c ∷ l) = cond (isDigit c) (suc (firstBad l)) 0
 abbrev pub allDigits : List ℕ → Bool
 allDigits l = eqb (firstBad l) (length l)
 
--- FRAME is not given for a line's characters: it is not empty, each is a digit, and their count is even (the final 0A is looked for where the lines are read)
+-- a line's characters pass FRAME: it is not empty, each is a digit, and their count is even (the final 0A is looked for where the lines are read)
 unfoldable pub framed : List ℕ → Bool
 framed l = cond (eqb (length l) 0) false (cond (allDigits l) (eqb (length l % 2) 0) false)

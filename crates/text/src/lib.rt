@@ -1,9 +1,13 @@
+// The lines of a text: where each ends, at its 0A or with the text; and FRAME, whether a line is one or more pairs of upper-case hexadecimal digits.
 ghost use mathlib.Core.Path.{_≡_};
 ghost use mathlib.Core.Bool.{true};
 ghost use Prim.Native.Nat.{_+_, _≤_};
 ghost use lib.ListN.{length, drop};
 ghost use Rattle.text.specs.Framed.{isDigit, framed, allDigits};
 ghost use Rattle.text.specs.Lines.{span};
+
+// The byte that ends a line.
+pub const LINE_END: u8 = 0x0a;
 
 // None of the eight characters from i on is a 0A. (No character ends the loop: the compiler takes all eight at once.)
 fn no_end(text: &[u8], i: usize) -> bool
@@ -13,7 +17,7 @@ fn no_end(text: &[u8], i: usize) -> bool
     let mut none = true;
     let mut k: usize = 0;
     while k < 8 {
-        none = none & (text[i + k] != 10);
+        none = none & (text[i + k] != LINE_END);
         k += 1;
     }
     none
@@ -43,7 +47,7 @@ pub fn line_end(text: &[u8], at: usize) -> usize
 {
     let mut i: usize = near_end(text, at);
     while i < text.len() {
-        if text[i] == 10 {
+        if text[i] == LINE_END {
             return i;
         }
         i += 1;
@@ -55,8 +59,8 @@ pub fn line_end(text: &[u8], at: usize) -> usize
 fn is_digit(c: u8) -> bool
     ensures { λ r. ⌜ r ≡ isDigit c ⌝ }
 {
-    let low = (48 <= c) & (c <= 57);
-    let high = (65 <= c) & (c <= 70);
+    let low = (b'0' <= c) & (c <= b'9');
+    let high = (b'A' <= c) & (c <= b'F');
     low | high
 }
 
@@ -73,7 +77,7 @@ fn all_digits(line: &[u8]) -> bool
     all
 }
 
-// FRAME is not given for the line's characters.
+// The line's characters pass FRAME.
 pub fn is_framed(line: &[u8]) -> bool
     ensures { λ r. ⌜ r ≡ framed (now (line .entry)) ⌝ }
 {

@@ -1,9 +1,11 @@
--- Some, every, how many and the first of the numbers below n, as tests: a test that passes is the equation `t ≡ true`. And what 'exactly one' says.
+-- Some, every, how many and the first of the numbers below n, as tests: a test that passes is the equation `t ≡ true`. Tests as a list. And what 'exactly one' says.
 -- Assumes nothing.
 use mathlib.Core.Path.{_≡_}
-use mathlib.Core.Bool.{Bool, true, false, cond, _&&_, _||_}
+use mathlib.Core.Bool.{Bool, true, false, not, cond, _&&_, _||_}
+use mathlib.Core.List.{List, [], _∷_}
 use Prim.Native.Nat.{ℕ, zero, suc, _+_}
 use lib.Dec.{ltb}
+use lib.ListN.{length, getD}
 
 -- some number below n passes
 unfoldable pub anyBelow : ℕ → (ℕ → Bool) → Bool
@@ -29,6 +31,21 @@ countBelow (suc n) f = one (f n) + countBelow n f
 unfoldable pub firstBelow : ℕ → (ℕ → Bool) → ℕ
 firstBelow zero f = zero
 firstBelow (suc n) f = let k = firstBelow n f in cond (ltb k n) k (cond (f n) n (suc n))
+
+-- every test of a list passes
+abbrev pub all : List Bool → Bool
+all [] = true
+all (t ∷ []) = t
+all (t ∷ u ∷ ts) = t && all (u ∷ ts)
+
+-- the tests of the numbers below n, in their order
+abbrev pub testsBelow : ℕ → (ℕ → Bool) → List Bool
+testsBelow zero f = []
+testsBelow (suc n) f = f zero ∷ testsBelow n (λ i. f (suc i))
+
+-- the number of the first test that fails, and their count where none does
+abbrev pub firstFailing : List Bool → ℕ
+firstFailing ts = firstBelow (length ts) (λ i. not (getD ts i true))
 
 -- exactly one a has P
 abbrev pub ExactlyOne : {A : Type 0} → (A → Type 0) → Type 0

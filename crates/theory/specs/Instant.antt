@@ -2,10 +2,11 @@
 -- Assumes nothing.
 use mathlib.Core.Path.{_≡_}
 use mathlib.Core.Bool.{Bool, true, false, not, _&&_, _||_}
+use mathlib.Core.List.{List, [], _∷_}
 use Prim.Native.Nat.{ℕ, _<_}
 use lib.Dec.{leb, ltb, eqb}
 use Rattle.theory.specs.Numbers.{PRIORITIES, LONGEST-DELAY}
-use Rattle.theory.specs.Below.{anyBelow, allBelow}
+use Rattle.theory.specs.Below.{anyBelow, allBelow, all}
 use Rattle.theory.specs.Events.{Events, Roles, disable, enable, holds, blocked, nonblocked}
 use Rattle.theory.specs.Sheet.{Trigger, Sheet, ofRoles, isPriority, is}
 
@@ -13,9 +14,12 @@ use Rattle.theory.specs.Sheet.{Trigger, Sheet, ofRoles, isPriority, is}
 abbrev pub Requests : Type 0
 Requests = ℕ → Events
 
--- a request's event is below twice the role count, its priority at most 15, its delay at most 60
+-- a request's event is below twice the role count, its priority at most 15, its delay at most 60: one test a field, in frame order (the instant of its frame is tape_tests' own test, FIELD)
+abbrev pub requestTests : ℕ → ℕ → ℕ → ℕ → List Bool
+requestTests roleCount d e p = ofRoles roleCount e ∷ isPriority p ∷ leb d LONGEST-DELAY ∷ []
+
 unfoldable pub requestFits : ℕ → ℕ → ℕ → ℕ → Bool
-requestFits roleCount d e p = ofRoles roleCount e && (isPriority p && leb d LONGEST-DELAY)
+requestFits roleCount d e p = all (requestTests roleCount d e p)
 
 -- the conditions of a trigger all hold in ST
 unfoldable pub allows : Roles → Trigger → Bool

@@ -2,6 +2,7 @@
 pub mod Tests
 pub mod Below
 pub mod First
+pub mod All
 pub mod Instant
 pub mod Limits
 pub mod Unique
@@ -10,7 +11,7 @@ pub mod Derive
 pub mod Reach
 pub mod Graph
 pub mod Levels
-pub mod Stage
+pub mod Solving
 pub mod OneSolution
 pub mod Loop
 pub mod History

@@ -10,5 +10,5 @@ pub mod Model
 pub mod Box
 pub mod LoopTest
 pub mod Used
-pub mod Stage
+pub mod Solving
 pub mod Laws

@@ -1,5 +1,5 @@
 -- The limits of document 01's 'Numbers' and 'The sheet', each by its name. (The kinds of frames are in kinds/Kinds and tape_frames/Frame; the day
--- program's limits in openings/Opening, tape_tests/Tape and day_lines/Lines.)
+-- program's limits in day_input/Opening, tape_tests/Tests and day_lines/Lines.)
 -- Assumes nothing.
 use Prim.Native.Nat.{ℕ, _*_}
 

@@ -2,10 +2,11 @@
 -- Assumes nothing.
 use mathlib.Core.Path.{_≡_}
 use mathlib.Core.Bool.{Bool, true, _&&_, _||_}
+use mathlib.Core.List.{List, [], _∷_, _++_}
 use Prim.Native.Nat.{ℕ, _+_, _-_, _*_, _%_, _≤_, _<_}
 use lib.Dec.{leb, ltb, eqb}
 use Rattle.theory.specs.Numbers.{ROLES, PRIORITIES, LAST-INSTANT, PERIODIC-ROWS, TRIGGER-ROWS, LONGEST-DELAY, NO-END, LONGEST-PERIOD, BODY-EVENTS, BODY-CONDITIONS}
-use Rattle.theory.specs.Below.{anyBelow, allBelow}
+use Rattle.theory.specs.Below.{anyBelow, all, testsBelow}
 use Rattle.theory.specs.Events.{Events}
 
 -- A periodic row, field by field.
@@ -49,25 +50,35 @@ isPriority p = ltb p PRIORITIES
 unfoldable pub endFits : ℕ → ℕ → Bool
 endFits begin end = (leb begin end && leb end LAST-INSTANT) || eqb end NO-END
 
-unfoldable pub periodicFits : ℕ → Periodic → Bool
-periodicFits roleCount w =
+-- a periodic row's tests, one a field, in frame order
+abbrev pub periodicTests : ℕ → Periodic → List Bool
+periodicTests roleCount w =
     leb (w .begin) LAST-INSTANT
-    && (endFits (w .begin) (w .end)
-    && ((leb 1 (w .period) && leb (w .period) LONGEST-PERIOD)
-    && (ltb (w .first) (w .period)
-    && ((leb 1 (w .run) && leb (w .run) (w .period))
-    && (ofRoles roleCount (w .event)
-    && isPriority (w .priority))))))
+    ∷ endFits (w .begin) (w .end)
+    ∷ (leb 1 (w .period) && leb (w .period) LONGEST-PERIOD)
+    ∷ ltb (w .first) (w .period)
+    ∷ (leb 1 (w .run) && leb (w .run) (w .period))
+    ∷ ofRoles roleCount (w .event)
+    ∷ isPriority (w .priority)
+    ∷ []
+
+unfoldable pub periodicFits : ℕ → Periodic → Bool
+periodicFits roleCount w = all (periodicTests roleCount w)
+
+-- a trigger's tests likewise: the counts, each event, each condition, and what stands last
+abbrev pub triggerTests : ℕ → Trigger → List Bool
+triggerTests roleCount g =
+    (leb 1 (g .eventCount) && leb (g .eventCount) BODY-EVENTS)
+    ∷ leb (g .conditionCount) BODY-CONDITIONS
+    ∷ (testsBelow (g .eventCount) (λ j. ofRoles roleCount (g .event j))
+    ++ (testsBelow (g .conditionCount) (λ j. ofRoles roleCount (g .condition j))
+    ++ (ofRoles roleCount (g .head)
+    ∷ isPriority (g .priority)
+    ∷ leb (g .delay) LONGEST-DELAY
+    ∷ [])))
 
 unfoldable pub triggerFits : ℕ → Trigger → Bool
-triggerFits roleCount g =
-    (leb 1 (g .eventCount) && leb (g .eventCount) BODY-EVENTS)
-    && (leb (g .conditionCount) BODY-CONDITIONS
-    && (allBelow (g .eventCount) (λ j. ofRoles roleCount (g .event j))
-    && (allBelow (g .conditionCount) (λ j. ofRoles roleCount (g .condition j))
-    && (ofRoles roleCount (g .head)
-    && (isPriority (g .priority)
-    && leb (g .delay) LONGEST-DELAY)))))
+triggerFits roleCount g = all (triggerTests roleCount g)
 
 -- A sheet in good order: no field and no count outside its limit.
 pub record GoodOrder (sh : Sheet) : Type 0 where

@@ -1,8 +1,10 @@
+// The row of a trigger frame, 13 bytes as its table holds them, with 0 in the places past its counts; of any line, for past its end stands 0.
 ghost use mathlib.Core.Path.{_≡_};
 ghost use Prim.Native.Nat.{_<_};
 ghost use Rattle.frames.specs.Frame.{bytesOf};
 ghost use Rattle.trigger_frames.specs.Row.{placed, eventPlace, conditionPlace, lastPlace, triggerRow};
 use frames::byte_at;
+use tables::TRIGGER_BYTES;
 use widths::index;
 
 // The byte b at place j of n, and zero past n.
@@ -47,7 +49,7 @@ fn last_place(line: &[u8], j: usize) -> u8
 }
 
 // The row of a trigger frame.
-pub fn trigger_row(line: &[u8]) -> [u8; 13]
+pub fn trigger_row(line: &[u8]) -> [u8; TRIGGER_BYTES]
     ensures { λ r. ⌜ r ≡ triggerRow (bytesOf (now (line .entry))) ⌝ }
 {
     [

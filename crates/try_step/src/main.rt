@@ -1,363 +1,56 @@
 // Takes cases of the form of second/FORMAT.md, 'A step case', and prints the result of each. A case that is not in the form ends the run
 // with the line `bad case`.
-ghost use Prim.Native.Nat.{_≤_};
-use answers::Answer;
 use answers::Verdict;
-use basic::both;
-use basic::one;
-use masks::number;
-use tables::byte;
-use widths::index;
-use widths::row_index;
+use cases::Run;
+use cases::four;
+use cases::put;
+use cases::take_rows;
+use cases::value;
+use tables::Counts;
+use widths::one;
 
-// The lengths of what is lent: the tables in rows, the buffers in numbers.
-struct Lengths {
-    periodics: u16,
-    triggers: u16,
-    waiting: u16,
-    events: u16,
-}
-
-// The numbers that a step takes beside what is lent, and the fill of the events buffer.
-struct Numbers {
-    roles: u8,
-    periodic_count: u16,
-    trigger_count: u16,
-    instant: u32,
-    enabled: u64,
-    fill: u16,
-}
-
-// How many members each list has.
-struct Lists {
-    periodics: u16,
-    triggers: u16,
-    waiting: u16,
-    requests: u16,
-}
-
-// ---- lines of digits
-
-// The value of a digit; 16 if it is none.
-fn digit(b: u8) -> usize
-    ensures { λ r. ⌜ r ≤ 16 ⌝ }
-{
-    if b < 48 {
-        return 16;
-    }
-    if b < 58 {
-        return index(b - 48);
-    }
-    if b < 65 {
-        return 16;
-    }
-    if b < 71 {
-        return index(b - 55);
-    }
-    16
-}
-
-// A byte is as the form asks: any digit where it has 0, else the form's own byte.
-fn is_as(b: u8, form: u8) -> bool {
-    if form == 48 {
-        return digit(b) < 16;
-    }
-    b == form
-}
-
-// A line begins as the form asks.
-fn fits(line: &[u8], form: &[u8]) -> bool {
-    let mut i: usize = 0;
-    while i < form.len() {
-        if !is_as(byte(line, i), byte(form, i)) {
-            return false;
-        }
-        i += 1;
-    }
-    true
-}
-
-// A number with one digit more; only the last sixteen digits count.
-fn more(v: usize, b: u8) -> usize {
-    16 * (v % 1152921504606846976) + digit(b) % 16
-}
-
-// The number of the digits at `from` and on, before `to`.
-fn value(line: &[u8], from: usize, to: usize) -> usize {
-    let mut v: usize = 0;
-    let mut i = from;
-    while i < to {
-        v = more(v, byte(line, i));
-        i += 1;
-    }
-    v
-}
-
-// The low byte of a number.
-fn low(x: usize) -> u8 {
-    (x % 256) as u8
-}
-
-// The low two bytes of a number.
-fn low_two(x: usize) -> u16 {
-    (x % 65536) as u16
-}
-
-// The low four bytes of a number.
-fn low_four(x: usize) -> u32 {
-    (x % 4294967296) as u32
-}
-
-// Takes a line from the input, if it has one that is as the form asks.
-fn take_line(space: &mut [u8], form: &[u8]) -> bool {
-    let n = form.len();
-    if n <= space.len() {
-        let got = io::read_full(0, &mut space[0..n]);
-        return both(got == n, fits(space, form));
-    }
-    false
-}
-
-// ---- the head line
-
-// The lengths that a head line says.
-fn lengths_of(line: &[u8]) -> Lengths {
-    Lengths {
-        periodics: low_two(value(line, 0, 4)),
-        triggers: low_two(value(line, 5, 9)),
-        waiting: low_two(value(line, 10, 14)),
-        events: low_two(value(line, 15, 19)),
-    }
-}
-
-// A role count in a byte, as a step takes it; the form has eight digits. A larger one becomes 255, which is over the limit as well.
-fn in_byte(x: usize) -> u8 {
-    if x > 255 {
-        return 255;
-    }
-    low(x)
-}
-
-// A count of rows in two bytes, as a step takes it; the form has eight digits. A larger one becomes 65,535, which is over the limit as well.
-fn in_two(x: usize) -> u16 {
-    if x > 65535 {
-        return 65535;
-    }
-    low_two(x)
-}
-
-// The numbers that a head line says.
-fn numbers_of(line: &[u8]) -> Numbers {
-    Numbers {
-        roles: in_byte(value(line, 20, 28)),
-        periodic_count: in_two(value(line, 29, 37)),
-        trigger_count: in_two(value(line, 38, 46)),
-        instant: low_four(value(line, 47, 55)),
-        enabled: value(line, 56, 72) as u64,
-        fill: low_two(value(line, 73, 77)),
-    }
-}
-
-// How long the lists are that a head line says.
-fn lists_of(line: &[u8]) -> Lists {
-    Lists {
-        periodics: low_two(value(line, 78, 82)),
-        triggers: low_two(value(line, 83, 87)),
-        waiting: low_two(value(line, 88, 92)),
-        requests: low_two(value(line, 93, 97)),
-    }
-}
-
-// The lists are within the limits of the form: the rows given within the tables.
-fn is_within(lists: Lists, lengths: Lengths) -> bool {
-    let rows = both(
-        lists.periodics <= lengths.periodics,
-        lists.triggers <= lengths.triggers,
-    );
-    both(rows, both(lists.waiting <= 8192, lists.requests <= 1024))
-}
-
-// ---- the lists
-
-// One byte at `at`, if there is room; where the next one goes.
-fn put(out: &mut [u8], at: usize, b: u8) -> usize {
-    if at < out.len() {
-        out[at] = b;
-        return at + 1;
-    }
-    at
-}
-
-// The first n bytes that a line of digits says, from `at` on; where the next one goes.
-fn put_bytes(into: &mut [u8], at: usize, line: &[u8], n: u8) -> usize {
-    let mut next = at;
-    let mut j: u8 = 0;
-    while j < n {
-        let i = 2 * index(j);
-        next = put(into, next, low(value(line, i, i + 2)));
-        j += 1;
-    }
-    next
-}
-
-// Takes a list of lines that are as the form asks, and puts the bytes that they say behind one another, `width` of each line.
-fn take_list(into: &mut [u8], count: u16, form: &[u8], width: u8) -> bool {
-    let mut at: usize = 0;
-    let mut k: u16 = 0;
-    while k < count {
-        let mut line = [0u8; 33];
-        if !take_line(&mut line, form) {
-            return false;
-        }
-        at = put_bytes(into, at, &line, width);
-        k += 1;
-    }
-    true
-}
-
-// Takes a list of periodic rows.
-fn take_periodics(table: &mut [u8], count: u16) -> bool {
-    take_list(table, count, b"00000000000000000000000000000000\n", 16)
-}
-
-// Takes a list of triggers.
-fn take_triggers(table: &mut [u8], count: u16) -> bool {
-    take_list(table, count, b"00000000000000000000000000\n", 13)
-}
-
-// Takes a list of requests. Those past the room are dropped: of more than 32 a step asks only how many there are.
-fn take_requests(asked: &mut [u8], count: u16) -> bool {
-    take_list(asked, count, b"000000\n", 3)
-}
-
-// Takes a waiting entry: the row, the event and the set of priorities.
-fn take_entry(waiting: &mut [u16]) -> bool {
-    let mut line = [0u8; 9];
-    if !take_line(&mut line, b"00000000\n") {
-        return false;
-    }
-    let row = index(low(value(&line, 0, 2)));
-    let event = index(low(value(&line, 2, 4)));
-    let at = 128 * row + event;
-    if event > 127 {
-        return false;
-    }
-    if at < waiting.len() {
-        waiting[at] = low_two(value(&line, 4, 8));
-        return true;
-    }
-    false
-}
-
-// Takes a list of waiting entries.
-fn take_waiting(waiting: &mut [u16], count: u16) -> bool {
-    let mut k: u16 = 0;
-    while k < count {
-        if !take_entry(waiting) {
-            return false;
-        }
-        k += 1;
-    }
-    true
-}
-
-// ---- what is put out
-
-// The digit of a value below 16.
-fn glyph(d: u8) -> u8 {
-    if d < 10 {
-        return 48 + d;
-    }
-    if d < 16 {
-        return 55 + d;
-    }
-    63
-}
-
-// A byte in two digits.
-fn put_hex(out: &mut [u8], at: usize, b: u8) -> usize {
-    let n = put(out, at, glyph(b / 16));
-    put(out, n, glyph(b % 16))
-}
-
-// A number in four digits.
-fn put_four(out: &mut [u8], at: usize, x: usize) -> usize {
-    let n = put_hex(out, at, low(x / 256));
-    put_hex(out, n, low(x))
-}
-
-// A number in eight digits.
-fn put_eight(out: &mut [u8], at: usize, x: usize) -> usize {
-    let n = put_four(out, at, x / 65536);
-    put_four(out, n, x)
-}
-
-// The answer and its place.
-fn put_answer(out: &mut [u8], answer: Answer) -> usize {
-    let a = put_hex(out, 0, answer.number);
-    let b = put(out, a, 32);
-    put_eight(out, b, answer.place as usize)
-}
-
-// The next instant and the enabled roles.
-fn put_state(out: &mut [u8], at: usize, instant: u32, enabled: u64) -> usize {
-    let roles = enabled as usize;
-    let a = put(out, at, 32);
-    let b = put_eight(out, a, instant as usize);
-    let c = put(out, b, 32);
-    let d = put_eight(out, c, roles / 4294967296);
-    put_eight(out, d, roles)
-}
+// ---- the result
 
 // How many numbers of a buffer are not zero.
 fn nonzero(buffer: &[u16]) -> usize {
     let mut n: usize = 0;
     let mut i: usize = 0;
     while i < buffer.len() {
-        n += index(one(number(buffer, i) != 0));
+        n += one(buffer[i] != 0) as usize;
         i += 1;
     }
     n
 }
 
-// Where number i of a buffer stands: its row, if the buffer has rows, and its event.
-fn put_place(out: &mut [u8], at: usize, i: usize, rows: bool) -> usize {
-    if rows {
-        let n = put_hex(out, at, low(i / 128));
-        return put_hex(out, n, low(i % 128));
+// Number i of a buffer as an entry: its row, if an entry has 8 digits, its event and the set of priorities.
+fn entry_of(i: usize, mask: u16, digits: u8) -> usize {
+    let at = i % 32768;
+    if digits == 8 {
+        return 16777216 * (at / 128) + 65536 * (at % 128) + mask as usize;
     }
-    put_hex(out, at, low(i))
+    65536 * at + mask as usize
 }
 
-// Number i of a buffer, if it is not zero: a blank, where it stands, and the set of priorities.
-fn put_entry(out: &mut [u8], at: usize, i: usize, mask: u16, rows: bool) -> usize {
+// Number i of a buffer, if it is not zero.
+fn put_entry(out: &mut [u8], at: usize, i: usize, mask: u16, digits: u8) -> usize {
     if mask == 0 {
         return at;
     }
-    let a = put(out, at, 32);
-    let b = put_place(out, a, i, rows);
-    put_four(out, b, row_index(mask))
+    put(out, at, entry_of(i, mask, digits), digits)
 }
 
-// The entries of a buffer.
-fn put_entries(out: &mut [u8], at: usize, buffer: &[u16], rows: bool) -> usize {
-    let mut n = at;
+// A buffer: how many numbers are not zero, and these.
+fn put_buffer(out: &mut [u8], at: usize, buffer: &[u16], digits: u8) -> usize {
+    let mut n = put(out, at, nonzero(buffer), 4);
     let mut i: usize = 0;
     while i < buffer.len() {
-        n = put_entry(out, n, i, number(buffer, i), rows);
+        n = put_entry(out, n, i, buffer[i], digits);
         i += 1;
     }
     n
 }
 
-// A buffer: how many numbers are not zero, and these.
-fn put_buffer(out: &mut [u8], at: usize, buffer: &[u16], rows: bool) -> usize {
-    let a = put(out, at, 32);
-    let b = put_four(out, a, nonzero(buffer));
-    put_entries(out, b, buffer, rows)
-}
-
-// The result line of a step; where it ends.
+// The line of a step; where it ends.
 fn put_result(
     out: &mut [u8],
     verdict: Verdict,
@@ -366,161 +59,204 @@ fn put_result(
     waiting: &[u16],
     events: &[u16],
 ) -> usize {
-    let a = put_answer(out, answers::answer_of(verdict));
-    let b = put_state(out, a, instant, enabled);
-    let c = put_buffer(out, b, waiting, true);
-    let d = put_buffer(out, c, events, false);
-    put(out, d, 10)
+    let a = cases::put_answer(out, answers::answer_of(verdict));
+    let b = put(out, a, instant as usize, 8);
+    let c = put(out, b, enabled as usize, 16);
+    let d = put_buffer(out, c, waiting, 8);
+    put_buffer(out, d, events, 6)
 }
 
-// Writes the first n bytes.
-fn write(out: &[u8], n: usize) -> bool {
-    if n <= out.len() {
-        return io::write_all(1, &out[0..n]);
+// Prints the result of a step.
+fn print_result(
+    verdict: Verdict,
+    instant: u32,
+    enabled: u64,
+    waiting: &[u16],
+    events: &[u16],
+) -> Run {
+    let mut out = [0u8; 75776];
+    let n = put_result(&mut out, verdict, instant, enabled, waiting, events);
+    cases::print(&mut out, n)
+}
+
+// ---- a case: its lists are taken in their order, each into what is lent for it; then comes the step
+//
+// The head line, with the letters of the form, and where its numbers begin:
+//
+//     PPPP TTTT WWWW EEEE RRRRRRRR CCCCCCCC DDDDDDDD IIIIIIII SSSSSSSSSSSSSSSS FFFF GGGG HHHH KKKK QQQQ
+//     0    5    10   15   20       29       38       47       56               73   78   83   88   93
+
+// A role count in a byte, as a step takes it; the form has eight digits. A larger one becomes 255, which is over the limit as well.
+fn in_byte(x: usize) -> u8 {
+    if x > 255 {
+        return 255;
     }
-    false
+    x as u8
 }
 
-// Says that a case is not in the form, and that the run ends.
-fn bad_case() -> bool {
-    io::write_all(1, b"bad case\n");
-    false
+// A count of rows in two bytes, as a step takes it; the form has eight digits. A larger one becomes 65,535, which is over the limit as well.
+fn in_two(x: usize) -> u16 {
+    if x > 65535 {
+        return 65535;
+    }
+    x as u16
 }
 
-// ---- a case
-
-// Every number of a buffer becomes the fill.
-fn fill_with(buffer: &mut [u16], fill: u16) {
-    let mut i: usize = 0;
-    while i < buffer.len() {
-        buffer[i] = fill;
-        i += 1;
+// The counts, as a step takes them.
+fn counts_of(head: &[u8]) -> Counts {
+    Counts {
+        roles: in_byte(value(head, 20, 28)),
+        periodics: in_two(value(head, 29, 37)),
+        triggers: in_two(value(head, 38, 46)),
     }
 }
 
-// Takes one step, and writes its result.
+// Takes one step, and prints its result.
 fn try_one(
-    c: Numbers,
+    head: &[u8],
     periodics: &[u8],
     triggers: &[u8],
     asked: [u8; 96],
-    n: usize,
     waiting: &mut [u16],
     events: &mut [u16],
-) -> bool {
-    let mut instant = c.instant;
-    let mut enabled = c.enabled;
+) -> Run {
+    let mut instant = (value(head, 47, 55) % 4294967296) as u32;
+    let mut enabled = value(head, 56, 72) as u64;
     let verdict = step::step(
-        c.roles,
-        c.periodic_count,
-        c.trigger_count,
+        counts_of(head),
         periodics,
         triggers,
         asked,
-        n,
+        four(head, 93) as usize,
         &mut instant,
         &mut enabled,
         waiting,
         events,
     );
-    let mut out = [0u8; 75776];
-    let end = put_result(&mut out, verdict, instant, enabled, waiting, events);
-    write(&out, end)
+    print_result(verdict, instant, enabled, waiting, events)
 }
 
-// The case whose tables and buffers are lent: the lists go into them, then the step is taken.
-fn with_lent(
-    c: Numbers,
-    lists: Lists,
-    periodics: &mut [u8],
-    triggers: &mut [u8],
+// The requests. Those past the room are dropped: of more than 32 a step asks only how many there are.
+fn with_events(
+    head: &[u8],
+    periodics: &[u8],
+    triggers: &[u8],
     waiting: &mut [u16],
     events: &mut [u16],
-) -> bool {
-    let mut asked = [0u8; 96];
-    fill_with(events, c.fill);
-    if !take_periodics(periodics, lists.periodics) {
-        return bad_case();
+) -> Run {
+    let n = four(head, 93);
+    if n <= 1024 {
+        let mut asked = [0u8; 96];
+        if take_rows(&mut asked, n, 6) {
+            return try_one(head, periodics, triggers, asked, waiting, events);
+        }
     }
-    if !take_triggers(triggers, lists.triggers) {
-        return bad_case();
-    }
-    if !take_waiting(waiting, lists.waiting) {
-        return bad_case();
-    }
-    if !take_requests(&mut asked, lists.requests) {
-        return bad_case();
-    }
-    let n = row_index(lists.requests);
-    try_one(c, periodics, triggers, asked, n, waiting, events)
+    Run::BadCase
 }
 
-// Lends tables and buffers of the lengths of the case, if they are within the limits of the form.
-fn lend(c: Numbers, lists: Lists, lengths: Lengths) -> bool {
-    let mut periodics = [0u8; 4096];
-    let mut triggers = [0u8; 6656];
-    let mut waiting = [0u16; 8192];
-    let mut events = [0u16; 256];
-    let p = 16 * row_index(lengths.periodics);
-    let t = 13 * row_index(lengths.triggers);
-    let w = row_index(lengths.waiting);
-    let e = row_index(lengths.events);
-    if p > 4096 {
-        return bad_case();
+// The events buffer, which holds the fill.
+fn with_waiting(head: &[u8], periodics: &[u8], triggers: &[u8], waiting: &mut [u16]) -> Run {
+    let e = four(head, 15) as usize;
+    let fill = four(head, 73);
+    if e <= 256 {
+        let mut events = [fill; 256];
+        return with_events(head, periodics, triggers, waiting, &mut events[0..e]);
     }
-    if t > 6656 {
-        return bad_case();
-    }
-    if w > 8192 {
-        return bad_case();
-    }
-    if e > 256 {
-        return bad_case();
-    }
-    with_lent(
-        c,
-        lists,
-        &mut periodics[0..p],
-        &mut triggers[0..t],
-        &mut waiting[0..w],
-        &mut events[0..e],
-    )
+    Run::BadCase
 }
 
-// The case of a head line.
-fn after_head(line: &[u8]) -> bool {
-    let lengths = lengths_of(line);
-    let lists = lists_of(line);
-    if is_within(lists, lengths) {
-        return lend(numbers_of(line), lists, lengths);
+// Takes a waiting entry into the first numbers of a buffer: the row, the event and the set of priorities. Where no entry is taken, the
+// row is past every buffer.
+fn take_entry(waiting: &mut [u16], numbers: usize) -> bool {
+    let x = cases::take_number(8);
+    let event = x / 65536 % 256;
+    let at = 128 * (x / 16777216) + event;
+    if (event < 128) & (at < numbers) {
+        if at < waiting.len() {
+            waiting[at] = (x % 65536) as u16;
+            return true;
+        }
     }
-    bad_case()
+    false
 }
 
-// One case from the input; whether the run goes on.
-fn one_case() -> bool {
-    let mut line = [0u8; 98];
-    let got = io::read_full(0, &mut line);
-    if got == 0 {
-        return false;
+// Takes a list of waiting entries.
+fn take_entries(waiting: &mut [u16], numbers: usize, count: u16) -> bool {
+    let mut k: u16 = 0;
+    while k < count {
+        if !take_entry(waiting, numbers) {
+            return false;
+        }
+        k += 1;
     }
-    if got < 98 {
-        return bad_case();
+    true
+}
+
+// The waiting buffer and its entries.
+fn with_triggers(head: &[u8], periodics: &[u8], triggers: &[u8]) -> Run {
+    let w = four(head, 10) as usize;
+    let given = four(head, 88);
+    if w <= 8192 {
+        if given <= 8192 {
+            let mut waiting = [0u16; 8192];
+            if take_entries(&mut waiting, w, given) {
+                return with_waiting(head, periodics, triggers, &mut waiting[0..w]);
+            }
+        }
     }
-    if fits(
-        &line,
+    Run::BadCase
+}
+
+// The trigger table and its rows.
+fn with_periodics(head: &[u8], periodics: &[u8]) -> Run {
+    let rows = four(head, 5);
+    let given = four(head, 83);
+    let t = 13 * rows as usize;
+    if t <= 6656 {
+        if given <= rows {
+            let mut triggers = [0u8; 6656];
+            if take_rows(&mut triggers, given, 26) {
+                return with_triggers(head, periodics, &triggers[0..t]);
+            }
+        }
+    }
+    Run::BadCase
+}
+
+// The periodic table and its rows.
+fn with_head(head: &[u8]) -> Run {
+    let rows = four(head, 0);
+    let given = four(head, 78);
+    let p = 16 * rows as usize;
+    if p <= 4096 {
+        if given <= rows {
+            let mut periodics = [0u8; 4096];
+            if take_rows(&mut periodics, given, 32) {
+                return with_periodics(head, &periodics[0..p]);
+            }
+        }
+    }
+    Run::BadCase
+}
+
+// One case from the input.
+fn one_case() -> Run {
+    let mut head = [0u8; 98];
+    let run = cases::take_line(
+        &mut head,
         b"0000 0000 0000 0000 00000000 00000000 00000000 00000000 0000000000000000 0000 0000 0000 0000 0000\n",
-    ) {
-        return after_head(&line);
+    );
+    if let Run::GoesOn = run {
+        return with_head(&head);
     }
-    bad_case()
+    run
 }
 
 // The cases, until the input ends or one is not in the form; at most a thousand million.
 fn main() {
     let mut left: usize = 1000000000;
     while left > 0 {
-        if !one_case() {
+        if !cases::goes_on(one_case()) {
             return;
         }
         left -= 1;

@@ -1,18 +1,22 @@
+// The turns of the triggers of one key: where a body is met the head joins the events, sweep after sweep, until nothing is added.
 ghost use mathlib.Core.Path.{_≡_};
 ghost use mathlib.Core.Bool.{true};
 ghost use Prim.Native.Nat.{ℕ};
 ghost use lib.ListN.{length};
 ghost use Rattle.theory.specs.Numbers.{EVENTS};
-ghost use Rattle.theory.specs.Stage.{Turn};
+ghost use Rattle.theory.specs.Solving.{Turn};
 ghost use Rattle.tables.specs.Buffers.{bit, eventsOf};
 ghost use Rattle.keys.specs.Keys.{Chained, Linked};
-ghost use Rattle.turns.specs.Turns.{Keyed, TurnAt, WalkedAt, SettledAt};
+ghost use Rattle.turns.specs.Turns.{Keyed, TurnAt, SweptAt, SettledAt};
 use bodies::met;
+use keys::FRONTS;
 use masks::join_where;
 use masks::number;
 use tables::HEAD;
 use tables::PRIORITY;
 use tables::trigger_byte;
+use theory::EVENTS;
+use theory::PRIORITIES;
 use widths::index;
 use widths::row_index;
 
@@ -20,7 +24,7 @@ use widths::row_index;
 fn has(mask: u16, p: u8) -> bool
     ensures { λ r. ⌜ r ≡ bit mask p ⌝ }
 {
-    if p < 16 {
+    if p < PRIORITIES {
         return (mask >> p) % 2 == 1;
     }
     false
@@ -31,10 +35,10 @@ fn put(events: &mut [u16], e: u8, p: u8) -> bool
     requires { ⌜ length (now events) ≡ EVENTS ⌝ }
     ensures { λ r. ⌜ Turn true (eventsOf (now (events .entry))) e p r (eventsOf (now (events .exit))) ⌝ }
 {
-    if e >= 128 {
+    if e >= EVENTS {
         return false;
     }
-    if p >= 16 {
+    if p >= PRIORITIES {
         return false;
     }
     let at = index(e);
@@ -58,13 +62,17 @@ fn turn(events: &mut [u16], triggers: &[u8], i: u16) -> bool
     put(events, e, p)
 }
 
-// A walk over the triggers of key k, along their chain: whether something was added.
-fn walk(events: &mut [u16], triggers: &[u8], chains: &[u16], n: u16, k: u16) -> bool
+// A sweep over the triggers of key k, along their chain: whether something was added.
+fn sweep(events: &mut [u16], triggers: &[u8], chains: &[u16], n: u16, k: u16) -> bool
     requires { ⌜ (length (now events) ≡ EVENTS) × Keyed k × Linked n (now chains) ⌝ }
-    ensures { λ r. ⌜ ((key : ℕ → ℕ) → Chained key n 0 (now (chains .entry)) → WalkedAt (now (triggers .entry)) n key k (now (events .entry)) r (now (events .exit))) ⌝ }
+    ensures { λ r. ⌜
+        ((key : ℕ → ℕ)
+        → Chained key n 0 (now (chains .entry))
+        → SweptAt (now (triggers .entry)) n key k (now (events .entry)) r (now (events .exit)))
+        ⌝ }
 {
     let mut changed = false;
-    let mut i = number(chains, 256 + row_index(k));
+    let mut i = number(chains, FRONTS + row_index(k));
     while i < n {
         let new = turn(events, triggers, i);
         changed = changed | new;
@@ -73,14 +81,18 @@ fn walk(events: &mut [u16], triggers: &[u8], chains: &[u16], n: u16, k: u16) -> 
     changed
 }
 
-// Walks over the triggers of key k until one adds nothing. (For the solver alone, which has shown that the events are a buffer of 128 numbers, that k is a key and not 0,
+// Sweeps over the triggers of key k until one adds nothing. (For the solver alone, which has shown that the events are a buffer of 128 numbers, that k is a key and not 0,
 // and that the triggers are chained.)
 pub fn settle(events: &mut [u16], triggers: &[u8], chains: &[u16], n: u16, k: u16)
     requires { ⌜ (length (now events) ≡ EVENTS) × Keyed k × Linked n (now chains) ⌝ }
-    ensures { λ _. ⌜ ((key : ℕ → ℕ) → Chained key n 0 (now (chains .entry)) → SettledAt (now (triggers .entry)) n key k (now (events .entry)) (now (events .exit))) ⌝ }
+    ensures { λ _. ⌜
+        ((key : ℕ → ℕ)
+        → Chained key n 0 (now (chains .entry))
+        → SettledAt (now (triggers .entry)) n key k (now (events .entry)) (now (events .exit)))
+        ⌝ }
 {
     loop {
-        if !walk(events, triggers, chains, n, k) {
+        if !sweep(events, triggers, chains, n, k) {
             return;
         }
     }

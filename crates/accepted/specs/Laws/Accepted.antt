@@ -20,17 +20,18 @@ use Rattle.theory.specs.Laws.OneSolution.{good-heads}
 use Rattle.answers.specs.declared.Refusal.{Refusal}
 use Rattle.answers.specs.declared.Verdict.the-variants.{Pass}
 use Rattle.text.specs.Lines.{lines}
-use Rattle.tables.specs.Layout.{PERIODIC-TABLE, TRIGGER-TABLE, sheetOf}
-use Rattle.walks.specs.Walks.{Going, goes, refused}
-use Rattle.line_acts.specs.Acts.{Progress}
-use Rattle.lines.specs.Lines.{reads}
-use Rattle.readings.specs.declared.Read.{Read}
-use Rattle.readings.specs.declared.Reading.the-variants.{Good, Bad}
-use Rattle.row_judge.specs.Judge.{judgeTables}
-use Rattle.judge.specs.Laws.{judge-refuses-not}
-use Rattle.hand_out.specs.Out.{ReadOutcome, readOutcome, sheetRead, handed, byLoop, afterLines}
-use Rattle.hand_out.specs.Laws.Exact.{outcome-one}
-use Rattle.sheet.specs.Sheet.{start, byLines, lengthsFit, reading}
+use Rattle.tables.specs.declared.Counts.{Counts}
+use Rattle.tables.specs.Layout.{PERIODIC-TABLE, TRIGGER-TABLE}
+use Rattle.tables.specs.Lent.{rules, sheetIn}
+use Rattle.line_readers.specs.Walks.{Going, goes, refused}
+use Rattle.sheet_acts.specs.Acts.{Progress}
+use Rattle.reader.specs.Lines.{reads}
+use Rattle.reader.specs.declared.Reading.the-variants.{Good, Refused}
+use Rattle.table_judge.specs.Judge.{judgeTables}
+use Rattle.table_judge.specs.Laws.{judge-refuses-not}
+use Rattle.reader.specs.Out.{ReadOutcome, readOutcome, sheetRead, byLoop, afterLines}
+use Rattle.reader.specs.Laws.Exact.{outcome-one}
+use Rattle.reader.specs.Reading.{start, byLines, sheetLengthsFit, reading}
 use Rattle.accepted.specs.Laws.SoFar.{SoFar}
 use Rattle.accepted.specs.Laws.Lines.{read-so-far}
 
@@ -46,26 +47,26 @@ no-loop sh g h =
     (λ (y : (loopPlace sh < PAIRS) × LoopAt sh (loopPlace sh)). absurd (omega (arith, h, y .0)))
     (loop-or sh (good-heads sh g))
 
-module _ (p t : List ℕ) (r : Read) (p′ t′ : List ℕ) where
+module _ (p t : List ℕ) (r : Counts) (p′ t′ : List ℕ) where
   -- what comes back of an accepted sheet
   abbrev accepted : ReadOutcome
   accepted = readOutcome (Good r) p′ t′
 
   -- a refusal is no acceptance
-  not-bad : {C : Type 0} (x : Refusal) → readOutcome (Bad x) p t ≡ accepted → C
-  not-bad x e = let q : Bad x ≡ Good r = outcome-one (Bad x) (Good r) p p′ t t′ e .0 in absurd (let w : _≡_ {A = ℕ} 0 1 = cc in omega arith)
+  not-bad : {C : Type 0} (x : Refusal) → readOutcome (Refused x) p t ≡ accepted → C
+  not-bad x e = let q : Refused x ≡ Good r = outcome-one (Refused x) (Good r) p p′ t t′ e .0 in absurd (let w : _≡_ {A = ℕ} 0 1 = cc in omega arith)
 
   -- where a test that must hold does not, there is a refusal
-  cond-accepted : (b : Bool) (o : ReadOutcome) (x : Refusal) → cond b o (readOutcome (Bad x) p t) ≡ accepted → o ≡ accepted
+  cond-accepted : (b : Bool) (o : ReadOutcome) (x : Refusal) → cond b o (readOutcome (Refused x) p t) ≡ accepted → o ≡ accepted
   cond-accepted true o x e = e
   cond-accepted false o x e = not-bad x e
 
   -- the lines went on to their end, LOOP was not found, and what was read is what is handed out
   record From (s : Progress) : Type 0 where
     loopless : PAIRS ≤ loopPlace (sheetRead s)
-    is-read : handed (s .seen) ≡ r
-    is-periodic : s .periodics ≡ p′
-    is-triggers : s .triggers ≡ t′
+    is-read : s .seen .counts ≡ r
+    is-periodic : s .tables .periodics ≡ p′
+    is-triggers : s .tables .triggers ≡ t′
 
   by-loop : (s : Progress) → afterLines s p t ≡ accepted → From s
   unfolding byLoop
@@ -74,8 +75,8 @@ module _ (p t : List ℕ) (r : Read) (p′ t′ : List ℕ) where
       ⊎-elim
       (λ (b : ltb k PAIRS ≡ true). not-bad _ (rw b at e))
       (λ (b : ltb k PAIRS ≡ false).
-      let q = outcome-one (Good (handed (s .seen))) (Good r) (s .periodics) p′ (s .triggers) t′ (rw b at e) in
-      let g : Good (handed (s .seen)) ≡ Good r = q .0 in
+      let q = outcome-one (Good (s .seen .counts)) (Good r) (s .tables .periodics) p′ (s .tables .triggers) t′ (rw b at e) in
+      let g : Good (s .seen .counts) ≡ Good r = q .0 in
       record { loopless = ltb-false k PAIRS b; is-read = cc; is-periodic = q .1; is-triggers = q .2 })
       (test (ltb k PAIRS))
 
@@ -84,14 +85,14 @@ module _ (p t : List ℕ) (r : Read) (p′ t′ : List ℕ) where
   by-reads (goes s) e = (s, refl, by-loop s e)
   by-reads (refused x) e = not-bad x e
 
-module _ (sheet p t : List ℕ) (r : Read) (p′ t′ : List ℕ) (e : reading sheet p t ≡ readOutcome (Good r) p′ t′) where
+module _ (sheet p t : List ℕ) (r : Counts) (p′ t′ : List ℕ) (e : reading sheet p t ≡ readOutcome (Good r) p′ t′) where
   -- the sheet that is handed out
   abbrev sh : Sheet
-  sh = sheetOf (r .roles) (r .periodics) (r .triggers) p′ t′
+  sh = sheetIn (rules r p′ t′)
 
   went : (s : Progress) × (reads (goes start) (lines sheet) ≡ goes s) × From p t r p′ t′ s
   unfolding reading
-  went = by-reads p t r p′ t′ (reads (goes start) (lines sheet)) (cond-accepted p t r p′ t′ (lengthsFit (length sheet) (length p) (length t)) _ _ e)
+  went = by-reads p t r p′ t′ (reads (goes start) (lines sheet)) (cond-accepted p t r p′ t′ (sheetLengthsFit (length sheet) (length p) (length t)) _ _ e)
 
   read : SoFar (went .0) × GoodOrder (sheetRead (went .0))
   read = read-so-far (went .0) start (lines sheet) start-so-far (went .1)
@@ -99,7 +100,7 @@ module _ (sheet p t : List ℕ) (r : Read) (p′ t′ : List ℕ) (e : reading s
   is-sheet : sheetRead (went .0) ≡ sh
   is-sheet =
       let w = went .2 in
-      λ i. sheetOf (w .is-read i .roles) (w .is-read i .periodics) (w .is-read i .triggers) (w .is-periodic i) (w .is-triggers i)
+      λ i. sheetIn (rules (w .is-read i) (w .is-periodic i) (w .is-triggers i))
 
   -- THE THEOREM: what the reader accepts is in good order and has no loop
   pub reading-good : GoodOrder sh × NoLoop sh

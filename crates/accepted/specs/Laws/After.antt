@@ -11,33 +11,33 @@ use Rattle.trigger_frames.specs.Row.{triggerRow}
 use Rattle.trigger_frames.specs.Laws.{length-trigger}
 use Rattle.kinds.specs.declared.Stage.the-variants.{Rows, Ended}
 use Rattle.kinds.specs.Kinds.{HEADER, PERIODIC, TRIGGER, END, kind}
-use Rattle.line_acts.specs.Acts.{seenAfter, tableAfter, Progress, progress, after}
+use Rattle.sheet_acts.specs.Acts.{seenAfter, tableAfter, Progress, progress, after}
 
 module _ (s : Progress) (f : List ℕ) where
   abbrev n : ℕ
-  n = s .seen .periodics
+  n = s .seen .counts .periodics
 
   abbrev m : ℕ
-  m = s .seen .triggers
+  m = s .seen .counts .triggers
 
   -- the tables with the frame's row
   abbrev periodicMore : List ℕ
-  periodicMore = paste (s .periodics) (PERIODIC-BYTES * n) (periodicRow f) PERIODIC-BYTES
+  periodicMore = paste (s .tables .periodics) (PERIODIC-BYTES * n) (periodicRow f) PERIODIC-BYTES
 
   abbrev triggerMore : List ℕ
-  triggerMore = paste (s .triggers) (TRIGGER-BYTES * m) (triggerRow f) TRIGGER-BYTES
+  triggerMore = paste (s .tables .triggers) (TRIGGER-BYTES * m) (triggerRow f) TRIGGER-BYTES
 
   abbrev pub withHeader : Progress
-  withHeader = progress (record { line = s .seen .line + 1; stage = Rows; roles = byteAt f 2; periodics = n; triggers = m }) (s .periodics) (s .triggers)
+  withHeader = progress (record { line = s .seen .line + 1; stage = Rows; counts = record { roles = byteAt f 2; periodics = n; triggers = m } }) (s .tables .periodics) (s .tables .triggers)
 
   abbrev pub withPeriodic : Progress
-  withPeriodic = progress (record { line = s .seen .line + 1; stage = Rows; roles = s .seen .roles; periodics = n + 1; triggers = m }) periodicMore (s .triggers)
+  withPeriodic = progress (record { line = s .seen .line + 1; stage = Rows; counts = record { roles = s .seen .counts .roles; periodics = n + 1; triggers = m } }) periodicMore (s .tables .triggers)
 
   abbrev pub withTrigger : Progress
-  withTrigger = progress (record { line = s .seen .line + 1; stage = Rows; roles = s .seen .roles; periodics = n; triggers = m + 1 }) (s .periodics) triggerMore
+  withTrigger = progress (record { line = s .seen .line + 1; stage = Rows; counts = record { roles = s .seen .counts .roles; periodics = n; triggers = m + 1 } }) (s .tables .periodics) triggerMore
 
   abbrev pub withEnd : Progress
-  withEnd = progress (record { line = s .seen .line + 1; stage = Ended; roles = s .seen .roles; periodics = n; triggers = m }) (s .periodics) (s .triggers)
+  withEnd = progress (record { line = s .seen .line + 1; stage = Ended; counts = s .seen .counts }) (s .tables .periodics) (s .tables .triggers)
 
   pub after-header : kind f ≡ HEADER → after s f ≡ withHeader
   unfolding after seenAfter tableAfter

@@ -12,8 +12,8 @@ use Rattle.kinds.specs.declared.Stage.{Stage}
 use Rattle.kinds.specs.declared.Stage.the-variants.{Start, Rows, Ended}
 use Rattle.kinds.specs.Kinds.{HEADER, PERIODIC, TRIGGER, END, kind, mayStand}
 use Rattle.row_counts.specs.Laws.{room-periodics, room-triggers}
-use Rattle.line_acts.specs.Acts.{Progress, after}
-use Rattle.line_tests.specs.Laws.{Passed}
+use Rattle.sheet_acts.specs.Acts.{Progress, after}
+use Rattle.sheet_tests.specs.Laws.{Passed}
 use Rattle.accepted.specs.Laws.Fields.{header-says, periodic-fits, trigger-fits}
 use Rattle.accepted.specs.Laws.After.{after-header, after-periodic, after-trigger, after-end}
 use Rattle.accepted.specs.Laws.SoFar.{InOrder, SoFar, header-keeps, periodic-keeps, trigger-keeps, end-keeps}
@@ -27,19 +27,19 @@ module _ (s : Progress) (f : List ℕ) (x : SoFar s) (p : Passed (s .seen) f) wh
   unfolding mayStand
   kept-at Start m z =
       let e : k ≡ HEADER = eqb-true k HEADER m in
-      subst SoFar (sym (after-header s f e)) (header-keeps s f x z (header-says (s .seen .roles) f e (p .fit)))
+      subst SoFar (sym (after-header s f e)) (header-keeps s f x z (header-says (s .seen .counts .roles) f e (p .fit)))
   kept-at Rows m g =
       ⊎-elim
       (λ (a : eqb k PERIODIC ≡ true).
       let e : k ≡ PERIODIC = eqb-true k PERIODIC a in
       subst SoFar (sym (after-periodic s f e))
-      (periodic-keeps s f x g (room-periodics k _ _ (p .room) e) (periodic-fits (s .seen .roles) f e (p .fit))))
+      (periodic-keeps s f x g (room-periodics k _ _ (p .room) e) (periodic-fits (s .seen .counts .roles) f e (p .fit))))
       (λ (b : (eqb k TRIGGER || eqb k END) ≡ true).
       ⊎-elim
       (λ (c : eqb k TRIGGER ≡ true).
       let e : k ≡ TRIGGER = eqb-true k TRIGGER c in
       subst SoFar (sym (after-trigger s f e))
-      (trigger-keeps s f x g (room-triggers k _ _ (p .room) e) (trigger-fits (s .seen .roles) f e (p .fit))))
+      (trigger-keeps s f x g (room-triggers k _ _ (p .room) e) (trigger-fits (s .seen .counts .roles) f e (p .fit))))
       (λ (d : eqb k END ≡ true). subst SoFar (sym (after-end s f (eqb-true k END d))) (end-keeps s f x g))
       (or-cases (eqb k TRIGGER) (eqb k END) b))
       (or-cases (eqb k PERIODIC) (eqb k TRIGGER || eqb k END) m)

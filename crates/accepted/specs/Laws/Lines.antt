@@ -6,15 +6,15 @@ use Prim.Native.Nat.{ℕ}
 use Rattle.theory.specs.Sheet.{GoodOrder}
 use Rattle.text.specs.Lines.{Lines, none, endless, line}
 use Rattle.frames.specs.Frame.{bytesOf}
-use Rattle.walks.specs.Walks.{goes, walks}
-use Rattle.walks.specs.Laws.{no-goes, walks-first}
+use Rattle.line_readers.specs.Walks.{goes, walks}
+use Rattle.line_readers.specs.Laws.Walks.{no-goes, walks-first}
 use Rattle.kinds.specs.declared.Stage.{Stage}
 use Rattle.kinds.specs.declared.Stage.the-variants.{Start, Rows, Ended}
-use Rattle.line_tests.specs.Laws.{Passed}
-use Rattle.line_acts.specs.Acts.{Progress, after}
-use Rattle.lines.specs.Lines.{atEnd, sheetReader, reads}
-use Rattle.lines.specs.Laws.Lines.{took-line}
-use Rattle.hand_out.specs.Out.{sheetRead}
+use Rattle.sheet_tests.specs.Laws.{Passed}
+use Rattle.sheet_acts.specs.Acts.{Progress, after}
+use Rattle.reader.specs.Lines.{atEnd, sheetReader, reads}
+use Rattle.reader.specs.Laws.Lines.{took-line}
+use Rattle.reader.specs.Out.{sheetRead}
 use Rattle.accepted.specs.Laws.SoFar.{InOrder, SoFar}
 use Rattle.accepted.specs.Laws.Kept.{kept}
 

@@ -16,20 +16,20 @@ use Rattle.trigger_frames.specs.Row.{triggerRow}
 use Rattle.trigger_frames.specs.Laws.{length-trigger}
 use Rattle.kinds.specs.declared.Stage.{Stage}
 use Rattle.kinds.specs.declared.Stage.the-variants.{Start, Rows, Ended}
-use Rattle.line_acts.specs.Acts.{Progress}
-use Rattle.hand_out.specs.Out.{sheetRead}
+use Rattle.sheet_acts.specs.Acts.{Progress}
+use Rattle.reader.specs.Out.{sheetRead}
 use Rattle.accepted.specs.Laws.Tables.{periodics-more, triggers-more}
 use Rattle.accepted.specs.Laws.After.{withHeader, withPeriodic, withTrigger, withEnd}
 
 -- before the header no row was read; after it the sheet is in good order
 abbrev pub InOrder : Stage → Progress → Type 0
-InOrder Start s = (s .seen .periodics ≡ 0) × (s .seen .triggers ≡ 0)
+InOrder Start s = (s .seen .counts .periodics ≡ 0) × (s .seen .counts .triggers ≡ 0)
 InOrder Rows s = GoodOrder (sheetRead s)
 InOrder Ended s = GoodOrder (sheetRead s)
 
 pub record SoFar (s : Progress) : Type 0 where
-  pub periodic-bytes : length (s .periodics) ≡ PERIODIC-TABLE
-  pub trigger-bytes : length (s .triggers) ≡ TRIGGER-TABLE
+  pub periodic-bytes : length (s .tables .periodics) ≡ PERIODIC-TABLE
+  pub trigger-bytes : length (s .tables .triggers) ≡ TRIGGER-TABLE
   pub in-order : InOrder (s .seen .stage) s
 
 -- ---- each kind of frame keeps it so
@@ -53,15 +53,15 @@ module _ (s : Progress) (f : List ℕ) (x : SoFar s) where
       }
 
   module _ (g : GoodOrder (sheetRead s)) where
-    pub periodic-keeps : s .seen .periodics < PERIODIC-ROWS → periodicFits (s .seen .roles) (periodicAt (periodicRow f) 0) ≡ true → SoFar (withPeriodic s f)
+    pub periodic-keeps : s .seen .counts .periodics < PERIODIC-ROWS → periodicFits (s .seen .counts .roles) (periodicAt (periodicRow f) 0) ≡ true → SoFar (withPeriodic s f)
     unfolding sheetOf
     periodic-keeps l h =
-        let n : ℕ = s .seen .periodics in
+        let n : ℕ = s .seen .counts .periodics in
         let row : List ℕ = periodicRow f in
-        let whole : length (s .periodics) ≡ PERIODIC-TABLE = x .periodic-bytes in
+        let whole : length (s .tables .periodics) ≡ PERIODIC-TABLE = x .periodic-bytes in
         let wide : length row ≡ PERIODIC-BYTES = length-periodic f in
         record {
-          periodic-bytes = length-paste (s .periodics) (PERIODIC-BYTES * n) row PERIODIC-BYTES (omega arith) (omega arith) ∙ whole;
+          periodic-bytes = length-paste (s .tables .periodics) (PERIODIC-BYTES * n) row PERIODIC-BYTES (omega arith) (omega arith) ∙ whole;
           trigger-bytes = x .trigger-bytes;
           in-order =
               record {
@@ -69,21 +69,21 @@ module _ (s : Progress) (f : List ℕ) (x : SoFar s) where
                 few-roles = g .few-roles;
                 few-periodics = omega arith;
                 few-triggers = g .few-triggers;
-                periodics = periodics-more (s .seen .roles) n (s .periodics) row wide whole l (g .periodics) h;
+                periodics = periodics-more (s .seen .counts .roles) n (s .tables .periodics) row wide whole l (g .periodics) h;
                 triggers = g .triggers;
               };
         }
 
-    pub trigger-keeps : s .seen .triggers < TRIGGER-ROWS → triggerFits (s .seen .roles) (triggerAt (triggerRow f) 0) ≡ true → SoFar (withTrigger s f)
+    pub trigger-keeps : s .seen .counts .triggers < TRIGGER-ROWS → triggerFits (s .seen .counts .roles) (triggerAt (triggerRow f) 0) ≡ true → SoFar (withTrigger s f)
     unfolding sheetOf
     trigger-keeps l h =
-        let n : ℕ = s .seen .triggers in
+        let n : ℕ = s .seen .counts .triggers in
         let row : List ℕ = triggerRow f in
-        let whole : length (s .triggers) ≡ TRIGGER-TABLE = x .trigger-bytes in
+        let whole : length (s .tables .triggers) ≡ TRIGGER-TABLE = x .trigger-bytes in
         let wide : length row ≡ TRIGGER-BYTES = length-trigger f in
         record {
           periodic-bytes = x .periodic-bytes;
-          trigger-bytes = length-paste (s .triggers) (TRIGGER-BYTES * n) row TRIGGER-BYTES (omega arith) (omega arith) ∙ whole;
+          trigger-bytes = length-paste (s .tables .triggers) (TRIGGER-BYTES * n) row TRIGGER-BYTES (omega arith) (omega arith) ∙ whole;
           in-order =
               record {
                 some-role = g .some-role;
@@ -91,7 +91,7 @@ module _ (s : Progress) (f : List ℕ) (x : SoFar s) where
                 few-periodics = g .few-periodics;
                 few-triggers = omega arith;
                 periodics = g .periodics;
-                triggers = triggers-more (s .seen .roles) n (s .triggers) row wide whole l (g .triggers) h;
+                triggers = triggers-more (s .seen .counts .roles) n (s .tables .triggers) row wide whole l (g .triggers) h;
               };
         }
 

@@ -8,6 +8,7 @@ use mathlib.Core.List.{List}
 use Prim.Native.Nat.{ℕ, _<_}
 use native.Mathlib.Omega.{arith}
 use lib.ListN.{length}
+use Rattle.tables.specs.declared.Counts.{Counts}
 use Rattle.theory.specs.Graph.{NoLoop, LoopAt}
 use Rattle.theory.specs.LoopTest.{PAIRS, loopPlace}
 use borrow.Author.Tests.{le-leb, eq-eqb}
@@ -16,21 +17,20 @@ use Rattle.theory.specs.Laws.Loop.{loop-or}
 use Rattle.theory.specs.Laws.OneSolution.{good-heads}
 use Rattle.answers.specs.declared.Name.{Name}
 use Rattle.answers.specs.declared.Name.the-variants.{Length, Loop}
-use Rattle.answers.specs.Answers.{answered}
+use Rattle.answers.specs.Answers.{answered, refusal}
 use Rattle.text.specs.Lines.{lines}
-use Rattle.walks.specs.Walks.{goes, refused}
-use Rattle.walks.specs.Laws.{no-goes}
-use Rattle.line_acts.specs.Acts.{Progress}
-use Rattle.lines.specs.Lines.{reads}
-use Rattle.readings.specs.declared.Read.{Read}
-use Rattle.readings.specs.declared.Reading.the-variants.{Good}
-use Rattle.readings.specs.Readings.{verdictOf}
-use Rattle.hand_out.specs.Out.{ReadOutcome, readOutcome}
-use Rattle.hand_out.specs.Laws.Exact.{outcome-one}
-use Rattle.sheet.specs.Sheet.{start, byLines, lengthsFit, reading}
-use Rattle.sheet.specs.Laws.Lengths.{lengths-say}
+use Rattle.line_readers.specs.Walks.{goes, refused}
+use Rattle.line_readers.specs.Laws.Walks.{no-goes}
+use Rattle.sheet_acts.specs.Acts.{Progress}
+use Rattle.reader.specs.Lines.{reads}
+use Rattle.reader.specs.declared.Reading.the-variants.{Good, Refused}
+use Rattle.reader.specs.Answer.{verdictOf}
+use Rattle.reader.specs.Out.{ReadOutcome, readOutcome}
+use Rattle.reader.specs.Laws.Exact.{outcome-one}
+use Rattle.reader.specs.Reading.{start, byLines, sheetLengthsFit, reading}
+use Rattle.reader.specs.Laws.Lengths.{lengths-say}
 use Rattle.line_by_line.specs.Lines.{linesIn, restIn}
-use Rattle.line_by_line.specs.ComesBack.{RefusedAt, ReadsWhole, periodicTable, triggerTable, countsOf, sheetSaid, LengthsFit, framesIn, refusal, ComesBack, by-length, at-line, by-loop, accepted}
+use Rattle.line_by_line.specs.ComesBack.{RefusedAt, ReadsWhole, periodicTable, triggerTable, countsOf, sheetSaid, LengthsFit, framesIn, ComesBack, by-length, at-line, by-loop, accepted}
 use Rattle.line_by_line.specs.Laws.Said.{said}
 use Rattle.line_by_line.specs.Laws.Lines.{Way, stops, goes-on, from-first}
 use Rattle.line_by_line.specs.Laws.One.{refused-one, whole-not}
@@ -49,30 +49,30 @@ module _ (sheet p t : List ℕ) where
   abbrev fs : List (List ℕ)
   fs = framesIn sheet
 
-  -- LENGTH is not given, in words and as the reader tests it
+  -- passes LENGTH, in words and as the reader tests it
   abbrev Fit : Type 0
   Fit = LengthsFit sheet p t
 
-  fits : lengthsFit (length sheet) (length p) (length t) ≡ true → Fit
+  fits : sheetLengthsFit (length sheet) (length p) (length t) ≡ true → Fit
   fits h = let x = lengths-say (length sheet) (length p) (length t) h in record { of-sheet = x .0; of-periodics = x .1 .0; of-triggers = x .1 .1 }
 
-  so-fits : Fit → lengthsFit (length sheet) (length p) (length t) ≡ true
-  unfolding lengthsFit
+  so-fits : Fit → sheetLengthsFit (length sheet) (length p) (length t) ≡ true
+  unfolding sheetLengthsFit
   so-fits x = rw (le-leb _ _ (x .of-sheet), eq-eqb _ _ (x .of-periodics), eq-eqb _ _ (x .of-triggers)) refl
 
   -- a refusal, with the tables as they came
   abbrev bad : Name → ℕ → ReadOutcome
-  bad name k = refusal name k p t
+  bad name k = readOutcome (Refused (refusal name k)) p t
 
   -- ---- each answer, from what the words say
 
   -- LENGTH
   length-back : ¬ Fit → reading sheet p t ≡ bad Length 0
   unfolding reading
-  length-back n = rw (is-false (lengthsFit (length sheet) (length p) (length t)) (λ h. n (fits h))) refl
+  length-back n = rw (is-false (sheetLengthsFit (length sheet) (length p) (length t)) (λ h. n (fits h))) refl
 
   -- a line that the reader refuses, and one that is refused by the words
-  refused-back : Fit → (name : Name) (k : ℕ) → reads (goes start) (lines sheet) ≡ refused (record { name = name; place = k }) → reading sheet p t ≡ bad name k
+  refused-back : Fit → (name : Name) (k : ℕ) → reads (goes start) (lines sheet) ≡ refused (refusal name k) → reading sheet p t ≡ bad name k
   unfolding reading byLines
   refused-back l name k e = rw (so-fits l, e) refl
 
@@ -114,9 +114,9 @@ module _ (sheet p t : List ℕ) where
   some-back : ComesBack sheet p t (reading sheet p t)
   some-back =
       ⊎-elim
-      (λ (h : lengthsFit (length sheet) (length p) (length t) ≡ true). by-way (fits h) (from-first sheet))
-      (λ (h : lengthsFit (length sheet) (length p) (length t) ≡ false). let n : ¬ Fit = λ x. not-both (so-fits x) h in by-length n (length-back n))
-      (test (lengthsFit (length sheet) (length p) (length t)))
+      (λ (h : sheetLengthsFit (length sheet) (length p) (length t) ≡ true). by-way (fits h) (from-first sheet))
+      (λ (h : sheetLengthsFit (length sheet) (length p) (length t) ≡ false). let n : ¬ Fit = λ x. not-both (so-fits x) h in by-length n (length-back n))
+      (test (sheetLengthsFit (length sheet) (length p) (length t)))
     where
       by-way : Fit → Way ls rest (reads (goes start) (lines sheet)) → ComesBack sheet p t (reading sheet p t)
       by-way l (stops name k x e) = at-line name k l x (refused-back l name k e)
@@ -159,11 +159,11 @@ module _ (sheet p t : List ℕ) where
   reader-whole = ((λ x. to (x .0) (x .1) (from-first sheet)), (λ x. (said fs, whole-back (x .0) (x .1))))
     where
       to : (s : Progress) → ReadsInOrder sheet p t s → Way ls rest (reads (goes start) (lines sheet)) → Fit × ReadsWhole ls rest
-      to s o (stops a m y e) = no-goes (record { name = a; place = m }) s (sym e ∙ o .to-its-end)
+      to s o (stops a m y e) = no-goes (refusal a m) s (sym e ∙ o .to-its-end)
       to s o (goes-on w e) = (fits (o .lengths), w)
 
   -- what is handed out is what the frames say
-  pub reader-tables : (r : Read) (p′ t′ : List ℕ) → reading sheet p t ≡ readOutcome (Good r) p′ t′ → (r ≡ countsOf fs) × (p′ ≡ periodicTable fs) × (t′ ≡ triggerTable fs)
+  pub reader-tables : (r : Counts) (p′ t′ : List ℕ) → reading sheet p t ≡ readOutcome (Good r) p′ t′ → (r ≡ countsOf fs) × (p′ ≡ periodicTable fs) × (t′ ≡ triggerTable fs)
   reader-tables r p′ t′ h = to (reader-says (readOutcome (Good r) p′ t′) .0 h)
     where
       not-bad : {C : Type 0} (name : Name) (k : ℕ) → readOutcome (Good r) p′ t′ ≡ bad name k → C

@@ -15,15 +15,15 @@ use Rattle.theory.specs.Model.{Stream}
 use Rattle.theory.specs.Laws.Tests.{test}
 use Rattle.answers.specs.declared.Refusal.{Refusal}
 use Rattle.answers.specs.declared.Verdict.{Verdict}
-use Rattle.answers.specs.declared.Verdict.the-variants.{Pass, Refuse}
+use Rattle.answers.specs.declared.Verdict.the-variants.{Pass, Refused}
 use Rattle.answers.specs.declared.Answer.{Answer}
 use Rattle.answers.specs.Answers.{numberOf, answered}
 use Rattle.answers.specs.Laws.{no-pass}
-use Rattle.openings.specs.Opening.{Opening, opens, refuses, opening}
+use Rattle.day_input.specs.Opening.{Opening, opens, refused, opening}
 use Rattle.day_lines.specs.Lines.{OUTPUT-BYTES}
-use Rattle.days.specs.declared.Printed.{Printed}
-use Rattle.days.specs.Day.{PrintsDay, Prints, AfterOpening, DayOutcome, writtenBy, written}
-use Rattle.days.specs.Laws.Exact.{prints-one}
+use Rattle.day_print.specs.declared.Printed.{Printed}
+use Rattle.day_print.specs.Day.{PrintsDay, Prints, AfterOpening, DayOutcome, writtenBy, written}
+use Rattle.day_print.specs.Laws.Exact.{prints-one}
 use Rattle.claims.specs.Laws.Numbers.{not-ok}
 
 -- what is written of what comes back is what is printed of the opening
@@ -32,7 +32,7 @@ written-prints (opens sh RQ last) out r out′ f =
     let s : List ℕ = f .printed in
     let e : written r out′ ≡ s = (λ i. writtenBy (f .verdict i) (f .size i) (f .buffer i)) ∙ take-append-seam s (drop (length s) out) in
     subst (PrintsDay sh RQ last) (sym e) (f .day)
-written-prints (refuses x) out r out′ k = ap (λ (p : Printed). written p out′) (k .0)
+written-prints (refused x) out r out′ k = ap (λ (p : Printed). written p out′) (k .0)
 
 -- THE THEOREM: and nothing else is
 pub day-prints : (input out : List ℕ) (r : Printed) (out′ : List ℕ) → length out ≡ OUTPUT-BYTES → DayOutcome input out r out′
@@ -42,12 +42,12 @@ day-prints input out r out′ l d =
     (w, λ other p. prints-one input other (written r out′) p w)
 
 -- where a refusal comes back, the buffer is as it came
-back-keeps : (o : Opening) (out : List ℕ) (r : Printed) (out′ : List ℕ) → AfterOpening o out r out′ → (x : Refusal) → r .verdict ≡ Refuse x → (r .length ≡ 0) × (out′ ≡ out)
+back-keeps : (o : Opening) (out : List ℕ) (r : Printed) (out′ : List ℕ) → AfterOpening o out r out′ → (x : Refusal) → r .verdict ≡ Refused x → (r .length ≡ 0) × (out′ ≡ out)
 back-keeps (opens sh RQ last) out r out′ f x e = no-pass x (sym e ∙ f .verdict)
-back-keeps (refuses y) out r out′ k x e = (ap (λ (p : Printed). p .length) (k .0), k .1)
+back-keeps (refused y) out r out′ k x e = (ap (λ (p : Printed). p .length) (k .0), k .1)
 
 -- and so it is where the buffer has another length
-pub day-keeps : (input out : List ℕ) (r : Printed) (out′ : List ℕ) (x : Refusal) → DayOutcome input out r out′ → r .verdict ≡ Refuse x → (r .length ≡ 0) × (out′ ≡ out)
+pub day-keeps : (input out : List ℕ) (r : Printed) (out′ : List ℕ) (x : Refusal) → DayOutcome input out r out′ → r .verdict ≡ Refused x → (r .length ≡ 0) × (out′ ≡ out)
 day-keeps input out r out′ x d e =
     ⊎-elim
     (λ (h : eqb (length out) OUTPUT-BYTES ≡ true). back-keeps (opening input) out r out′ (d .fits (eqb-true _ _ h)) x e)
@@ -59,17 +59,17 @@ day-keeps input out r out′ x d e =
 -- the answer to an opening
 abbrev answerTo : Opening → Verdict
 answerTo (opens sh RQ last) = Pass
-answerTo (refuses x) = Refuse x
+answerTo (refused x) = Refused x
 
 -- and so what comes back of it has
 back-answers : (o : Opening) (out : List ℕ) (r : Printed) (out′ : List ℕ) → AfterOpening o out r out′ → r .verdict ≡ answerTo o
 back-answers (opens sh RQ last) out r out′ f = f .verdict
-back-answers (refuses x) out r out′ k = ap (λ (p : Printed). p .verdict) (k .0)
+back-answers (refused x) out r out′ k = ap (λ (p : Printed). p .verdict) (k .0)
 
 -- an input opens, or is refused
-opening-cases : (o : Opening) → ((sh : Sheet) × (RQ : Stream) × (last : ℕ) × (o ≡ opens sh RQ last)) ⊎ ((x : Refusal) × (o ≡ refuses x))
+opening-cases : (o : Opening) → ((sh : Sheet) × (RQ : Stream) × (last : ℕ) × (o ≡ opens sh RQ last)) ⊎ ((x : Refusal) × (o ≡ refused x))
 opening-cases (opens sh RQ last) = inl (sh, RQ, last, refl)
-opening-cases (refuses x) = inr (x, refl)
+opening-cases (refused x) = inr (x, refl)
 
 module _ (input out : List ℕ) (r : Printed) (out′ : List ℕ) (size : length out ≡ OUTPUT-BYTES) (day : DayOutcome input out r out′) where
   -- by the opening
@@ -82,24 +82,24 @@ module _ (input out : List ℕ) (r : Printed) (out′ : List ℕ) (size : length
     (λ h.
         ⊎-elim
         (λ (x : (sh : Sheet) × (RQ : Stream) × (last : ℕ) × (opening input ≡ opens sh RQ last)). x)
-        (λ (y : (x : Refusal) × (opening input ≡ refuses x)). not-ok (y .0) (sym (answers (refuses (y .0)) (y .1)) ∙ h))
+        (λ (y : (x : Refusal) × (opening input ≡ refused x)). not-ok (y .0) (sym (answers (refused (y .0)) (y .1)) ∙ h))
         (opening-cases (opening input))),
     (λ x. answers (opens (x .0) (x .1) (x .2)) (x .3)),
   )
 
   -- and any other number and place exactly where it is refused with them
-  pub day-refuses : (n k : ℕ) → 1 ≤ n → (answered (r .verdict) ≡ record { number = n; place = k }) ↔ ((x : Refusal) × (opening input ≡ refuses x) × (numberOf (x .name) ≡ n) × (x .place ≡ k))
+  pub day-refuses : (n k : ℕ) → 1 ≤ n → (answered (r .verdict) ≡ record { number = n; place = k }) ↔ ((x : Refusal) × (opening input ≡ refused x) × (numberOf (x .name) ≡ n) × (x .place ≡ k))
   day-refuses n k l = (
     (λ h.
         ⊎-elim
         (λ (x : (sh : Sheet) × (RQ : Stream) × (last : ℕ) × (opening input ≡ opens sh RQ last)).
         let e : 0 ≡ n = ap (λ (a : Answer). a .number) (sym (answers (opens (x .0) (x .1) (x .2)) (x .3)) ∙ h) in
         absurd (omega (arith, l, e)))
-        (λ (y : (x : Refusal) × (opening input ≡ refuses x)).
-        let e : answered (Refuse (y .0)) ≡ record { number = n; place = k } = sym (answers (refuses (y .0)) (y .1)) ∙ h in
+        (λ (y : (x : Refusal) × (opening input ≡ refused x)).
+        let e : answered (Refused (y .0)) ≡ record { number = n; place = k } = sym (answers (refused (y .0)) (y .1)) ∙ h in
         (y .0, y .1, ap (λ (a : Answer). a .number) e, ap (λ (a : Answer). a .place) e))
         (opening-cases (opening input))),
-    (λ x. answers (refuses (x .0)) (x .1) ∙ (λ i. record { number = x .2 i; place = x .3 i })),
+    (λ x. answers (refused (x .0)) (x .1) ∙ (λ i. record { number = x .2 i; place = x .3 i })),
   )
 
 -- a buffer of another length is number 1, place 0

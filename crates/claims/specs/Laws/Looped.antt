@@ -3,12 +3,13 @@
 use mathlib.Core.Path.{_≡_, refl}
 use mathlib.Core.Bool.{Bool, true, false, false≢true}
 use native.Mathlib.Omega.{arith}
+use Rattle.answers.specs.Answers.{refusal}
 use Rattle.theory.specs.Below.{anyBelow, allBelow}
 use Rattle.theory.specs.Events.{conf}
 use Rattle.theory.specs.Sheet.{triggerFits}
 use Rattle.theory.specs.Graph.{counts, node, drawn, here, LoopAt}
 use Rattle.answers.specs.declared.Name.the-variants.{Loop}
-use Rattle.line_order.specs.Order.{inOrder}
+use Rattle.line_readers.specs.Order.{inOrder}
 use Rattle.tables.specs.Layout.{triggerFrom, sheetOf}
 use Rattle.text.specs.Lines.{lines}
 use Rattle.text.specs.Framed.{isDigit, framed}
@@ -17,14 +18,14 @@ use Rattle.trigger_frames.specs.Row.{placed, eventPlace, conditionPlace, lastPl
 use Rattle.kinds.specs.Kinds.{sizeOf, mayStand}
 use Rattle.row_counts.specs.Counts.{roomFor, countsAgree}
 use Rattle.fields.specs.Fields.{headerFits, frameFits}
-use Rattle.line_tests.specs.Judge.{lineTests, judgeLine}
-use Rattle.line_acts.specs.Acts.{Progress, seenAfter, tableAfter, after}
-use Rattle.lines.specs.Line.{lineStep}
-use Rattle.walks.specs.Walks.{Going, goes, refused, byVerdict, walks}
-use Rattle.lines.specs.Lines.{atEnd, reads}
-use Rattle.readings.specs.declared.Reading.the-variants.{Bad}
-use Rattle.hand_out.specs.Out.{readOutcome, sheetRead}
-use Rattle.sheet.specs.Sheet.{start, lengthsFit, reading}
+use Rattle.sheet_tests.specs.Judge.{lineTests, judgeLine}
+use Rattle.sheet_acts.specs.Acts.{Progress, seenAfter, tableAfter, after}
+use Rattle.reader.specs.Line.{lineStep}
+use Rattle.line_readers.specs.Walks.{Going, goes, refused, byVerdict, walks}
+use Rattle.reader.specs.Lines.{atEnd, reads}
+use Rattle.reader.specs.declared.Reading.the-variants.{Refused}
+use Rattle.reader.specs.Out.{readOutcome, sheetRead}
+use Rattle.reader.specs.Reading.{start, sheetLengthsFit, reading}
 use Rattle.claims.specs.Words.{ReadsInOrder, noPeriodics, noTriggers, looped}
 use Rattle.claims.specs.Laws.Reader.{refuses-loop}
 
@@ -47,7 +48,7 @@ found = end (reads (goes start) (lines looped))
 
 in-order : ReadsInOrder looped noPeriodics noTriggers found
 unfolding anyBelow allBelow triggerFits triggerFrom isDigit value framed checked sizeOf mayStand placed eventPlace conditionPlace lastPlace triggerRow headerFits frameFits roomFor countsAgree
-    inOrder lineTests judgeLine seenAfter tableAfter after byVerdict lineStep atEnd walks lengthsFit
+    inOrder lineTests judgeLine seenAfter tableAfter after byVerdict lineStep atEnd walks sheetLengthsFit
 in-order = record { lengths = refl; to-its-end = to-end (reads (goes start) (lines looped)) refl }
 
 has-loop : LoopAt (sheetRead found) 0
@@ -64,5 +65,5 @@ has-loop =
       is-first = λ a b x y c. omega arith;
     }
 
-pub not-all-passed : reading looped noPeriodics noTriggers ≡ readOutcome (Bad (record { name = Loop; place = 0 })) noPeriodics noTriggers
+pub not-all-passed : reading looped noPeriodics noTriggers ≡ readOutcome (Refused (refusal Loop 0)) noPeriodics noTriggers
 not-all-passed = refuses-loop looped noPeriodics noTriggers found in-order 0 has-loop

@@ -14,7 +14,7 @@ use Rattle.answers.specs.declared.Name.the-variants.{Length, Frame, Check, Kind
 use Rattle.answers.specs.declared.Answer.{Answer}
 use Rattle.answers.specs.declared.Refusal.{Refusal}
 use Rattle.answers.specs.declared.Verdict.{Verdict}
-use Rattle.answers.specs.declared.Verdict.the-variants.{Pass, Refuse}
+use Rattle.answers.specs.declared.Verdict.the-variants.{Pass, Refused}
 use Rattle.answers.specs.Answers.{numberOf, answered}
 
 -- the number of a refusal is 1 to 10
@@ -55,18 +55,18 @@ pub number-once : (a b : Name) → numberOf a ≡ numberOf b → a ≡ b
 number-once a b e = sym (name-again a) ∙ (ap (λ (n : ℕ). nameAt (n - 1)) e ∙ name-again b)
 
 -- a refusal's number is not OK's
-pub not-ok : {C : Type 0} (r : Refusal) → answered (Refuse r) ≡ answered Pass → C
+pub not-ok : {C : Type 0} (r : Refusal) → answered (Refused r) ≡ answered Pass → C
 not-ok r e = absurd (omega (arith, no-other (r .name) .0, ap (λ (a : Answer). a .number) e))
 
 -- no two verdicts have one number and one place
 pub answered-once : (v w : Verdict) → answered v ≡ answered w → v ≡ w
 answered-once Pass Pass e = refl
-answered-once Pass (Refuse r) e = not-ok r (sym e)
-answered-once (Refuse r) Pass e = not-ok r e
-answered-once (Refuse r) (Refuse s) e =
+answered-once Pass (Refused r) e = not-ok r (sym e)
+answered-once (Refused r) Pass e = not-ok r e
+answered-once (Refused r) (Refused s) e =
     let n : r .name ≡ s .name = number-once (r .name) (s .name) (ap (λ (a : Answer). a .number) e) in
     let p : r .place ≡ s .place = ap (λ (a : Answer). a .place) e in
-    λ i. Refuse (record { name = n i; place = p i })
+    λ i. Refused (record { name = n i; place = p i })
 
 -- every number is of one
 pub number-each : (n : ℕ) → 1 ≤ n → n ≤ 10 → (name : Name) × (numberOf name ≡ n)

@@ -20,25 +20,25 @@ use Rattle.answers.specs.declared.Name.the-variants.{Length, Frame, Check, Kind
 use Rattle.answers.specs.declared.Refusal.{Refusal}
 use Rattle.answers.specs.declared.Verdict.{Verdict}
 use Rattle.answers.specs.declared.Answer.{Answer}
-use Rattle.answers.specs.declared.Verdict.the-variants.{Pass, Refuse}
-use Rattle.line_order.specs.declared.Tests.{Tests}
-use Rattle.answers.specs.Answers.{numberOf, answered, refuse}
-use Rattle.line_order.specs.Order.{inOrder}
+use Rattle.answers.specs.declared.Verdict.the-variants.{Pass, Refused}
+use Rattle.line_readers.specs.declared.Tests.{Tests}
+use Rattle.answers.specs.Answers.{numberOf, answered, refuse, refusal}
+use Rattle.line_readers.specs.Order.{inOrder}
 use Rattle.text.specs.Lines.{Lines, none, endless, line, lines}
 use Rattle.frames.specs.Frame.{bytesOf}
-use Rattle.walks.specs.Walks.{Going, goes, refused, byVerdict, walks}
+use Rattle.line_readers.specs.Walks.{Going, goes, refused, byVerdict, walks}
 use Rattle.kinds.specs.declared.Stage.{Stage}
 use Rattle.kinds.specs.declared.Stage.the-variants.{Start, Rows, Ended}
-use Rattle.line_tests.specs.declared.Seen.{Seen}
-use Rattle.line_tests.specs.Judge.{lineTests, judgeLine}
-use Rattle.line_acts.specs.Acts.{Progress, after}
-use Rattle.lines.specs.Line.{lineStep}
-use Rattle.lines.specs.Lines.{atEnd, reads}
-use Rattle.readings.specs.declared.Reading.{Reading}
-use Rattle.readings.specs.declared.Reading.the-variants.{Good, Bad}
-use Rattle.readings.specs.Readings.{verdictOf}
-use Rattle.hand_out.specs.Out.{ReadOutcome, readOutcome, sheetRead, handed, byLoop, afterLines}
-use Rattle.sheet.specs.Sheet.{start, byLines, lengthsFit, reading}
+use Rattle.sheet_tests.specs.declared.Seen.{Seen}
+use Rattle.sheet_tests.specs.Judge.{lineTests, judgeLine}
+use Rattle.sheet_acts.specs.Acts.{Progress, after}
+use Rattle.reader.specs.Line.{lineStep}
+use Rattle.reader.specs.Lines.{atEnd, reads}
+use Rattle.reader.specs.declared.Reading.{Reading}
+use Rattle.reader.specs.declared.Reading.the-variants.{Good, Refused}
+use Rattle.reader.specs.Answer.{verdictOf}
+use Rattle.reader.specs.Out.{ReadOutcome, readOutcome, sheetRead, byLoop, afterLines}
+use Rattle.reader.specs.Reading.{start, byLines, sheetLengthsFit, reading}
 use Rattle.accepted.specs.Laws.Accepted.{start-so-far}
 use Rattle.accepted.specs.Laws.Lines.{read-so-far}
 use Rattle.claims.specs.Words.{ReadsInOrder}
@@ -73,12 +73,12 @@ line-not place s l =
 -- what goes on, or its refusal, as a verdict
 abbrev verdictIn : Going Progress → Verdict
 verdictIn (goes s) = Pass
-verdictIn (refused r) = Refuse r
+verdictIn (refused r) = Refused r
 
 by-verdict : (v : Verdict) (made : Progress) → NotLoop v → NotLoop (verdictIn (byVerdict v made))
 unfolding byVerdict
 by-verdict Pass made h = h
-by-verdict (Refuse r) made h = h
+by-verdict (Refused r) made h = h
 
 end-not : (g : Stage) (s : Progress) → NotLoop (verdictIn (atEnd g s))
 unfolding atEnd
@@ -111,26 +111,26 @@ module _ (sheet p t : List ℕ) where
   unfolding reading byLines
   after-order s o = rw (o .lengths, o .to-its-end) refl
 
-  by-reads : lengthsFit (length sheet) (length p) (length t) ≡ true → (x : Going Progress) → reads (goes start) (lines sheet) ≡ x → NotLoop (verdictIn x)
-      → ((s : Progress) × ReadsInOrder sheet p t s) ⊎ ((r : Refusal) × (reading sheet p t ≡ readOutcome (Bad r) p t) × NotLoop (Refuse r))
+  by-reads : sheetLengthsFit (length sheet) (length p) (length t) ≡ true → (x : Going Progress) → reads (goes start) (lines sheet) ≡ x → NotLoop (verdictIn x)
+      → ((s : Progress) × ReadsInOrder sheet p t s) ⊎ ((r : Refusal) × (reading sheet p t ≡ readOutcome (Refused r) p t) × NotLoop (Refused r))
   unfolding reading byLines
   by-reads l (goes s) e h = inl (s, record { lengths = l; to-its-end = e })
   by-reads l (refused r) e h = inr (r, rw (l, e) refl, h)
 
-  order-cases : ((s : Progress) × ReadsInOrder sheet p t s) ⊎ ((r : Refusal) × (reading sheet p t ≡ readOutcome (Bad r) p t) × NotLoop (Refuse r))
+  order-cases : ((s : Progress) × ReadsInOrder sheet p t s) ⊎ ((r : Refusal) × (reading sheet p t ≡ readOutcome (Refused r) p t) × NotLoop (Refused r))
   unfolding reading
   order-cases =
       ⊎-elim
-      (λ (l : lengthsFit (length sheet) (length p) (length t) ≡ true).
+      (λ (l : sheetLengthsFit (length sheet) (length p) (length t) ≡ true).
       by-reads l (reads (goes start) (lines sheet)) refl (reads-not (goes start) (lines sheet) (λ e. omega (arith, e))))
-      (λ (l : lengthsFit (length sheet) (length p) (length t) ≡ false). inr (record { name = Length; place = 0 }, rw l refl, λ e. omega (arith, e)))
-      (test (lengthsFit (length sheet) (length p) (length t)))
+      (λ (l : sheetLengthsFit (length sheet) (length p) (length t) ≡ false). inr (refusal Length 0, rw l refl, λ e. omega (arith, e)))
+      (test (sheetLengthsFit (length sheet) (length p) (length t)))
 
   -- ---- and then it has a loop at a place, or none
 
   -- the refusal with LOOP
   abbrev loopAt : ℕ → Reading
-  loopAt k = Bad (record { name = Loop; place = k })
+  loopAt k = Refused (refusal Loop k)
 
   module _ (s : Progress) (o : ReadsInOrder sheet p t s) where
     pub refuses-loop : (k : ℕ) → LoopAt (sheetRead s) k → reading sheet p t ≡ readOutcome (loopAt k) p t
@@ -143,7 +143,7 @@ module _ (sheet p t : List ℕ) where
         after-order s o ∙ rw (lt-ltb (loopPlace (sheetRead s)) PAIRS (y .0)) (ap (λ (x : ℕ). readOutcome (loopAt x) p t) e))
         (loop-or (sheetRead s) (good-heads (sheetRead s) (reader-order sheet p t s o)))
 
-    pub accepts-none : NoLoop (sheetRead s) → reading sheet p t ≡ readOutcome (Good (handed (s .seen))) (s .periodics) (s .triggers)
+    pub accepts-none : NoLoop (sheetRead s) → reading sheet p t ≡ readOutcome (Good (s .seen .counts)) (s .tables .periodics) (s .tables .triggers)
     unfolding byLoop
     accepts-none nl =
         ⊎-elim
@@ -172,7 +172,7 @@ module _ (sheet p t : List ℕ) where
         let e : 0 ≡ 8 = ap (λ (a : Answer). a .number) (sym (ap answerIn (accepts-none (x .0) (x .1) n)) ∙ h) in
         absurd (omega arith))
         (loop-or-none (x .0) (x .1)))
-        (λ (y : (r : Refusal) × (reading sheet p t ≡ readOutcome (Bad r) p t) × NotLoop (Refuse r)). absurd (y .2 (ap (λ (a : Answer). a .number) (sym (ap answerIn (y .1)) ∙ h))))
+        (λ (y : (r : Refusal) × (reading sheet p t ≡ readOutcome (Refused r) p t) × NotLoop (Refused r)). absurd (y .2 (ap (λ (a : Answer). a .number) (sym (ap answerIn (y .1)) ∙ h))))
         order-cases),
     (λ x. ap answerIn (refuses-loop (x .0) (x .1) k (x .2))),
   )
@@ -184,26 +184,26 @@ module _ (sheet p t : List ℕ) where
         ⊎-elim
         (λ (x : (s : Progress) × ReadsInOrder sheet p t s).
         ⊎-elim
-        (λ (l : (j : ℕ) × LoopAt (sheetRead (x .0)) j). not-ok (record { name = Loop; place = l .0 }) (sym (ap answerIn (refuses-loop (x .0) (x .1) (l .0) (l .1))) ∙ h))
+        (λ (l : (j : ℕ) × LoopAt (sheetRead (x .0)) j). not-ok (refusal Loop (l .0)) (sym (ap answerIn (refuses-loop (x .0) (x .1) (l .0) (l .1))) ∙ h))
         (λ (n : NoLoop (sheetRead (x .0))). (x .0, x .1, n))
         (loop-or-none (x .0) (x .1)))
-        (λ (y : (r : Refusal) × (reading sheet p t ≡ readOutcome (Bad r) p t) × NotLoop (Refuse r)). not-ok (y .0) (sym (ap answerIn (y .1)) ∙ h))
+        (λ (y : (r : Refusal) × (reading sheet p t ≡ readOutcome (Refused r) p t) × NotLoop (Refused r)). not-ok (y .0) (sym (ap answerIn (y .1)) ∙ h))
         order-cases),
     (λ x. ap answerIn (accepts-none (x .0) (x .1) (x .2))),
   )
 
   -- a refusal leaves both tables as they came
-  pub reader-keeps : (r : Refusal) → reading sheet p t .answer ≡ Bad r → reading sheet p t ≡ readOutcome (Bad r) p t
+  pub reader-keeps : (r : Refusal) → reading sheet p t .answer ≡ Refused r → reading sheet p t ≡ readOutcome (Refused r) p t
   reader-keeps r h =
-      let kept : (x : Reading) → reading sheet p t ≡ readOutcome x p t → reading sheet p t ≡ readOutcome (Bad r) p t
+      let kept : (x : Reading) → reading sheet p t ≡ readOutcome x p t → reading sheet p t ≡ readOutcome (Refused r) p t
       = λ x e. e ∙ ap (λ (a : Reading). readOutcome a p t) (sym (ap (λ (o : ReadOutcome). o .answer) e) ∙ h) in
       ⊎-elim
       (λ (x : (s : Progress) × ReadsInOrder sheet p t s).
       ⊎-elim
       (λ (l : (j : ℕ) × LoopAt (sheetRead (x .0)) j). kept (loopAt (l .0)) (refuses-loop (x .0) (x .1) (l .0) (l .1)))
       (λ (n : NoLoop (sheetRead (x .0))).
-      let e : Good (handed (x .0 .seen)) ≡ Bad r = sym (ap (λ (o : ReadOutcome). o .answer) (accepts-none (x .0) (x .1) n)) ∙ h in
+      let e : Good (x .0 .seen .counts) ≡ Refused r = sym (ap (λ (o : ReadOutcome). o .answer) (accepts-none (x .0) (x .1) n)) ∙ h in
       not-ok r (sym (ap (λ (a : Reading). answered (verdictOf a)) e)))
       (loop-or-none (x .0) (x .1)))
-      (λ (y : (r : Refusal) × (reading sheet p t ≡ readOutcome (Bad r) p t) × NotLoop (Refuse r)). kept (Bad (y .0)) (y .1))
+      (λ (y : (r : Refusal) × (reading sheet p t ≡ readOutcome (Refused r) p t) × NotLoop (Refused r)). kept (Refused (y .0)) (y .1))
       order-cases

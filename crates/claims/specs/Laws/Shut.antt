@@ -20,8 +20,8 @@ use Rattle.masks.specs.Laws.Bits.{bit-none}
 use Rattle.masks.specs.Laws.Held.{roles-one, waiting-none, waiting-one}
 use Rattle.requests.specs.Requests.{fits, AllFit}
 use Rattle.accepted.specs.Laws.Accepted.{reading-good, reading-sizes}
-use Rattle.row_judge.specs.Judge.{Rules, sheetIn}
-use Rattle.step.specs.Outcome.{Lent, lent, stateIn, judgeStep, Outcome}
+use Rattle.tables.specs.Lent.{Rules, sheetIn, Lent, lent, stateIn}
+use Rattle.step.specs.Outcome.{judgeStep, Outcome}
 use Rattle.step.specs.Laws.Used.{rules-itself}
 use Rattle.runs.specs.Runs.{FreshLent, HandedOn, Steps}
 use Rattle.runs.specs.Laws.{under-sheet}

@@ -8,47 +8,41 @@ use Prim.Native.Nat.{ℕ, suc, _^_, _<_}
 use lib.Dec.{eqb}
 use lib.ListN.{length, drop}
 use borrow.Author.Tests.{eqb-true, eqb-false}
+use Rattle.answers.specs.Answers.{refusal}
 use Rattle.theory.specs.Numbers.{ROLES}
 use Rattle.theory.specs.Below.{ExactlyOne}
-use Rattle.theory.specs.Sheet.{Sheet, GoodOrder}
+use Rattle.theory.specs.Sheet.{GoodOrder}
 use Rattle.theory.specs.Graph.{NoLoop}
-use Rattle.theory.specs.Model.{Stream, noRoles}
-use Rattle.theory.specs.Box.{Within}
 use Rattle.theory.specs.Laws.Tests.{test}
-use Rattle.theory.specs.Laws.Run.{exactly-one-model}
 use Rattle.answers.specs.declared.Name.the-variants.{Length}
 use Rattle.answers.specs.declared.Refusal.{Refusal}
 use Rattle.answers.specs.declared.Verdict.{Verdict}
-use Rattle.answers.specs.declared.Verdict.the-variants.{Pass, Refuse}
+use Rattle.answers.specs.declared.Verdict.the-variants.{Pass, Refused}
 use Rattle.answers.specs.Laws.{verdict-cases, no-pass}
-use Rattle.text.specs.Lines.{lines}
-use Rattle.tables.specs.Layout.{sheetOf}
 use Rattle.tables.specs.Buffers.{rolesOf, eventsOf, Narrow}
 use Rattle.tables.specs.Asked.{Asked}
-use Rattle.after.specs.After.{rolesBelow}
-use Rattle.after.specs.Laws.{roles-are}
-use Rattle.row_judge.specs.Judge.{Rules, sheetIn}
-use Rattle.judge.specs.Laws.{judge-passes}
+use Rattle.roles_after.specs.After.{rolesBelow}
+use Rattle.roles_after.specs.Laws.{roles-are}
+use Rattle.tables.specs.Lent.{Rules, rules, sheetIn, Lent, lent}
+use Rattle.table_judge.specs.Laws.{judge-passes}
 use Rattle.requests.specs.Requests.{AllFit}
 use Rattle.requests.specs.Laws.{requests-pass}
-use Rattle.minute.specs.Minute.{refilled}
-use Rattle.step.specs.Outcome.{Lent, lent, judgeStep, Stepped, Outcome}
+use Rattle.instant.specs.Acted.{refilled}
+use Rattle.step.specs.Outcome.{judgeStep, Stepped, Outcome}
 use Rattle.step.specs.Laws.Exact.{step-exact, one-buffer-served}
 use Rattle.step.specs.Laws.Buffers.{rows-size, rows-are}
-use Rattle.step.specs.Laws.Passes.{Accepted, step-passes}
-use Rattle.tape.specs.Tape.{asksIn}
-use Rattle.tape.specs.Laws.Accepted.{fine-within}
-use Rattle.openings.specs.declared.Plan.{Plan}
-use Rattle.openings.specs.declared.Opened.{Opened}
-use Rattle.openings.specs.declared.Opened.the-variants.{Opens, Refuses}
-use Rattle.openings.specs.Opening.{Opening, opens, refuses, opening}
-use Rattle.openings.specs.Planned.{planned}
-use Rattle.days.specs.declared.Printed.{Printed}
+use Rattle.step.specs.Laws.Passes.{StepAccepted, step-passes}
+use Rattle.day_input.specs.declared.Plan.{Plan}
+use Rattle.day_input.specs.declared.Opened.{Opened}
+use Rattle.day_input.specs.declared.Opened.the-variants.{Opens, Refused}
+use Rattle.day_input.specs.Opening.{Opening, opens, refused, opening}
+use Rattle.day_input.specs.Planned.{Planned, planned, openingOf}
+use Rattle.day_print.specs.declared.Printed.{Printed}
 use Rattle.day_lines.specs.Lines.{minuteLines, OUTPUT-BYTES}
-use Rattle.day_lines.specs.Run.{rulesOf, openingOf}
-use Rattle.days.specs.Day.{Prints, unprinted, AfterOpening, DayOutcome}
-use Rattle.days.specs.Laws.Exact.{prints-one, day-exact}
-use Rattle.days.specs.Laws.Opened.{Opens-to, plan-opens, plan-refuses}
+use Rattle.day_print.specs.Day.{Prints, unprinted, AfterOpening, DayOutcome}
+use Rattle.day_print.specs.Laws.Exact.{prints-one, day-exact}
+use Rattle.day_run.specs.Laws.Model.{one-model}
+use Rattle.day_run.specs.Laws.Opened.{Opens-to, plan-opens, plan-refuses}
 
 -- ---- a step
 
@@ -56,13 +50,13 @@ module _ (R : Rules) (q : Asked) (l : Lent) (wide : l .roles < 2 ^ 64) (narrow :
   -- an accepted step: the one buffer that holds the solution, the roles after it and what waits then
   stepped : judgeStep R q l ≡ Pass → (a : Lent) × Stepped R q l a
   stepped h =
-      let x : Accepted R q l = step-passes R q l h in
+      let x : StepAccepted R q l = step-passes R q l h in
       let g : GoodOrder (sheetIn R) × NoLoop (sheetIn R) = judge-passes (sheetIn R) (x .tables) in
-      let fit : AllFit (R .roleCount) q = requests-pass (R .roleCount) q (x .requests) in
+      let fit : AllFit (R .counts .roles) q = requests-pass (R .counts .roles) q (x .requests) in
       let one = one-buffer-served R (g .0) (g .1) q fit l narrow in
       let b : List ℕ = one .0 in
       let size = x .lengths .waiting in (
-        lent (suc (l .instant)) (rolesBelow (rolesOf (l .roles)) (eventsOf b) ROLES) (refilled (l .waiting) (eventsOf b) (R .triggers) (R .triggerCount) q (rolesOf (l .roles)) (l .instant)) b,
+        lent (suc (l .instant)) (rolesBelow (rolesOf (l .roles)) (eventsOf b) ROLES) (refilled (l .waiting) (eventsOf b) (R .tables .triggers) (R .counts .triggers) q (rolesOf (l .roles)) (l .instant)) b,
         record {
           step = record {
             solves = one .1 .2;
@@ -82,8 +76,8 @@ module _ (R : Rules) (q : Asked) (l : Lent) (wide : l .roles < 2 ^ 64) (narrow :
       (λ (h : judgeStep R q l ≡ Pass).
       let s = stepped h in
       one Pass (s .0) (record { judged = sym h; refused = λ r e. no-pass r (sym e); passed = λ _. s .1 }))
-      (λ (h : (r : Refusal) × (judgeStep R q l ≡ Refuse r)).
-      one (Refuse (h .0)) l (record { judged = sym (h .1); refused = λ r e. refl; passed = λ e. no-pass (h .0) e }))
+      (λ (h : (r : Refusal) × (judgeStep R q l ≡ Refused r)).
+      one (Refused (h .0)) l (record { judged = sym (h .1); refused = λ r e. refl; passed = λ e. no-pass (h .0) e }))
       (verdict-cases (judgeStep R q l))
     where
       one : (v : Verdict) (a : Lent) → Outcome R q l v a → ExactlyOne (λ (o : Verdict × Lent). Outcome R q l (o .0) (o .1))
@@ -95,22 +89,19 @@ module _ (R : Rules) (q : Asked) (l : Lent) (wide : l .roles < 2 ^ 64) (narrow :
 abbrev Printing : Opening → Type 0
 Printing o = (s : List ℕ) × Prints o s
 
-open-there : (input : List ℕ) (plan : Plan) (p t tape : List ℕ) → Opens-to input plan p t → tape ≡ drop (plan .from) input → Printing (openingOf plan p t tape)
-unfolding sheetOf
-open-there input plan p t tape x e =
-    let sh : Sheet = sheetIn (rulesOf plan p t) in
-    let RQ : Stream = asksIn (lines tape) in
-    let g : GoodOrder sh × NoLoop sh = judge-passes sh (x .tables) in
-    let within : Within sh RQ
-    = λ u d v q h. fine-within (plan .roles) 0 0 (lines (drop (plan .from) input)) (x .tape-fine) u d v q (subst (λ (y : List ℕ). asksIn (lines y) u d v q ≡ true) e h) in
-    let m = exactly-one-model sh (g .0) (g .1) noRoles RQ within in
+open-there : (input : List ℕ) (plan : Plan) (p t : List ℕ) → Opens-to input plan p t → Printing (openingOf plan p t (drop (plan .from) input))
+open-there input plan p t x =
+    let m = one-model (rules (plan .counts) p t) (drop (plan .from) input) (x .good) in
     (minuteLines (m .0) (suc (plan .last)), record { trace = m .0; model = m .1; lines = refl })
 
 by-answer : (input : List ℕ) (o : Opened) → planned input .answer ≡ o → Printing (opening input)
 by-answer input (Opens plan) h =
-    let x = plan-opens input (planned input .periodics) (planned input .triggers) (planned input .answer) refl plan h in
-    subst Printing (sym (x .opens-it)) (open-there input plan (planned input .periodics) (planned input .triggers) (drop (plan .from) input) x refl)
-by-answer input (Refuses r) h = subst Printing (sym (plan-refuses input (planned input .periodics) (planned input .triggers) (planned input .answer) refl r h)) (_, refl)
+    let o : Planned = planned input in
+    let x = plan-opens input (o .tables .periodics) (o .tables .triggers) (o .answer) refl plan h in
+    subst Printing (sym (x .opens-it)) (open-there input plan (o .tables .periodics) (o .tables .triggers) x)
+by-answer input (Refused r) h =
+    let o : Planned = planned input in
+    subst Printing (sym (plan-refuses input (o .tables .periodics) (o .tables .triggers) (o .answer) refl r h)) (_, refl)
 
 -- THE THEOREM: an input has exactly one day
 pub one-day : (input : List ℕ) → ExactlyOne (Prints (opening input))
@@ -120,7 +111,7 @@ one-day input = let s = by-answer input (planned input .answer) refl in (s .0, s
 back : (o : Opening) → Printing o → (out : List ℕ) → (r : Printed) × (out′ : List ℕ) × AfterOpening o out r out′
 back (opens sh RQ last) (s, d) out =
     (record { verdict = Pass; length = length s }, s ++ drop (length s) out, record { printed = s; day = d; verdict = refl; size = refl; buffer = refl })
-back (refuses x) s out = (unprinted x, out, (refl, refl))
+back (refused x) s out = (unprinted x, out, (refl, refl))
 
 -- and with any lent buffer exactly one outcome
 pub day-total : (input out : List ℕ) → ExactlyOne (λ (o : Printed × List ℕ). DayOutcome input out (o .0) (o .1))
@@ -131,7 +122,7 @@ day-total input out =
     let b = back (opening input) (d .0, d .1) out in
     one (b .0) (b .1) (record { fits = λ _. b .2; unfit = λ n. absurd (n (eqb-true _ _ h)) }))
     (λ (h : eqb (length out) OUTPUT-BYTES ≡ false).
-    one (unprinted (record { name = Length; place = 0 })) out (record { fits = λ e. absurd (eqb-false _ _ h e); unfit = λ _. (refl, refl) }))
+    one (unprinted (refusal Length 0)) out (record { fits = λ e. absurd (eqb-false _ _ h e); unfit = λ _. (refl, refl) }))
     (test (eqb (length out) OUTPUT-BYTES))
   where
     one : (r : Printed) (o : List ℕ) → DayOutcome input out r o → ExactlyOne (λ (o : Printed × List ℕ). DayOutcome input out (o .0) (o .1))

@@ -5,13 +5,12 @@ use mathlib.Core.List.{List}
 use Prim.Native.Nat.{ℕ}
 use Rattle.theory.specs.Laws.Exact.{exact}
 use Rattle.tables.specs.Asked.{flat}
-use Rattle.row_judge.specs.Judge.{Rules}
-use Rattle.step.specs.Outcome.{Lent}
+use Rattle.tables.specs.Lent.{Rules, Lent}
 use Rattle.step.specs.Laws.Exact.{step-exact}
-use Rattle.day_minute.specs.declared.Turn.{Turn}
+use Rattle.day_minute.specs.declared.Minute.{Minute}
 use Rattle.day_minute.specs.Minute.{batchAt, MinuteOutcome}
 
-pub day-minute-exact : (R : Rules) (tape : List ℕ) (at : ℕ) (before : Lent) (r r′ : Turn) (a a′ : Lent) → MinuteOutcome R tape at before r a → MinuteOutcome R tape at before r′ a′ → (r ≡ r′) × (a ≡ a′)
+pub day-minute-exact : (R : Rules) (tape : List ℕ) (at : ℕ) (before : Lent) (r r′ : Minute) (a a′ : Lent) → MinuteOutcome R tape at before r a → MinuteOutcome R tape at before r′ a′ → (r ≡ r′) × (a ≡ a′)
 day-minute-exact R tape at before r r′ a a′ x y =
     let s = step-exact R (flat (batchAt tape at before .asked) (batchAt tape at before .count)) before (r .verdict) (r′ .verdict) a a′ (x .step) (y .step) in
     let n : r .next ≡ r′ .next = exact (x .next) (y .next) in

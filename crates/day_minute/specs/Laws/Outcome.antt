@@ -7,9 +7,9 @@ use lib.ListN.{drop}
 use Rattle.answers.specs.declared.Verdict.{Verdict}
 use Rattle.text.specs.Lines.{lines}
 use Rattle.tables.specs.Asked.{flat}
-use Rattle.row_judge.specs.Judge.{Rules}
-use Rattle.step.specs.Outcome.{Lent, Outcome}
-use Rattle.batches.specs.declared.Batch.{Batch}
+use Rattle.tables.specs.Lent.{Rules, Lent}
+use Rattle.step.specs.Outcome.{Outcome}
+use Rattle.tape_batches.specs.declared.Batch.{Batch}
 use Rattle.day_minute.specs.Minute.{batchAt, restAt, MinuteOutcome}
 
 pub minute-of : (R : Rules) (tape : List ℕ) (at : ℕ) (before : Lent) (b : Batch) → (b ≡ batchAt tape at before) × (lines (drop (b .next) tape) ≡ restAt tape at before)

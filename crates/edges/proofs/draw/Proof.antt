@@ -2,7 +2,7 @@
 -- Assumes nothing.
 use Prim.Native.Nat.{_-_, _≤_}
 use Rattle.tables.specs.Layout.{triggersOf}
-use Rattle.rows.specs.Rows.{Become}
+use Rattle.reach_rows.specs.Rows.{Become}
 use Rattle.edges.specs.Drawing.{tailOf, drawsBelow, addedFrom}
 use Rattle.edges.specs.Laws.{draws-none, draws-next, draws-end}
 use borrow.Author.Needs.{needs}

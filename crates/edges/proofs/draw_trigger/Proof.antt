@@ -5,7 +5,7 @@ use Prim.Native.Nat.{_-_, _≤_}
 use borrow.Author.Tests.{not-true, not-false}
 use Rattle.tables.specs.Layout.{triggerAt}
 use Rattle.tables.specs.Laws.{event-count-byte, head-byte}
-use Rattle.rows.specs.Rows.{Become}
+use Rattle.reach_rows.specs.Rows.{Become}
 use Rattle.edges.specs.Drawing.{tailOf, addedFrom}
 use Rattle.edges.specs.Laws.{bodyEdges, body-none, body-next, body-end, body-skip}
 use borrow.Author.Needs.{needs}

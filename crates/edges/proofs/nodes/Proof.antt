@@ -3,7 +3,7 @@
 use mathlib.Core.Path.{_∙_}
 use Prim.Native.Nat.{_-_, _≤_}
 use Rattle.tables.specs.Laws.{head-byte}
-use Rattle.event_rows.specs.Row.{RowIs}
+use Rattle.reach_row.specs.Row.{RowIs}
 use Rattle.edges.specs.Laws.{nodeBelow, nodes-none, nodes-next, nodes-end}
 use borrow.Author.Needs.{needs}
 use Rattle.edges.proofs.nodes.Statement.{statement}
@@ -15,8 +15,11 @@ Inv-loop triggers n heads₀ i₀ heads i = (i ≤ n) × RowIs (nodeBelow n trig
 abbrev μ-loop : tie.MeasureT-loop
 μ-loop triggers n heads₀ i₀ heads i = n - i
 
+none-requires : tie.Need-none-requires Inv-loop μ-loop
+none-requires c κs = search needs
+
 loop-holds : tie.Need-loop-holds Inv-loop μ-loop
-loop-holds c = (search needs, nodes-none _ _)
+loop-holds c = (search needs, nodes-none _ _ _ (c .none .ensures))
 
 counts-at-requires : tie.Need-counts-at-requires Inv-loop μ-loop
 counts-at-requires c κs = search needs
@@ -37,14 +40,14 @@ loop-again : tie.Need-loop-again Inv-loop μ-loop
 loop-again c =
     let s = c .before .before in
     let d = s .before .before .before in
-    let n = d .before .before .args .n in
+    let n = d .before .before .before .args .n in
     let i = d .loop .i in
     (search needs, nodes-next n _ _ i _ _ (s .before .counts-at .ensures n) (s .trigger-byte .ensures ∙ head-byte _ _) (c .with .ensures (nodeBelow n _ i) (d .loop .inv .1)))
 
 returns : tie.Need-returns Inv-loop μ-loop
 returns c =
     let d = c .before in
-    nodes-end (d .before .before .args .n) _ _ (d .loop .i) (search needs) (search needs) (d .loop .inv .1)
+    nodes-end (d .before .before .before .args .n) _ _ (d .loop .i) (search needs) (search needs) (d .loop .inv .1)
 
 pub nodes-spec : {M : Type 1} → statement M
 nodes-spec =
@@ -52,6 +55,7 @@ nodes-spec =
     (tie.spec
     Inv-loop
     μ-loop
+    none-requires
     loop-holds
     counts-at-requires
     trigger-byte-requires

@@ -6,10 +6,10 @@ use mathlib.Core.List.{List}
 use Prim.Native.Nat.{ℕ}
 use Rattle.theory.specs.Sheet.{Sheet}
 use Rattle.theory.specs.Graph.{node}
-use Rattle.event_rows.specs.Row.{Row, RowIs}
-use Rattle.rows.specs.Rows.{Become, wholeRows}
-use Rattle.event_rows.specs.Laws.Exact.{row-one}
-use Rattle.rows.specs.Laws.Exact.{become-exact}
+use Rattle.reach_row.specs.Row.{Row, RowIs}
+use Rattle.reach_row.specs.Laws.Exact.{row-one}
+use Rattle.reach_rows.specs.Rows.{Become, wholeRows}
+use Rattle.reach_rows.specs.Laws.Exact.{become-exact}
 use Rattle.edges.specs.Drawing.{tailOf, drawsBelow, addedFrom}
 
 pub nodes-exact : (sh : Sheet) (r r′ : Row) → RowIs (node sh) r → RowIs (node sh) r′ → r ≡ r′

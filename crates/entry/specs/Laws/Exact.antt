@@ -3,9 +3,9 @@
 use mathlib.Core.Path.{_≡_}
 use mathlib.Core.List.{List}
 use Rattle.answers.specs.declared.Verdict.{Verdict}
-use Rattle.row_judge.specs.Judge.{Rules}
+use Rattle.tables.specs.Lent.{Rules, Lent}
 use Rattle.requests.specs.declared.Request.{Request}
-use Rattle.step.specs.Outcome.{Lent, Outcome}
+use Rattle.step.specs.Outcome.{Outcome}
 use Rattle.step.specs.Laws.Exact.{step-exact}
 use Rattle.entry.specs.Listed.{listed}
 

@@ -17,15 +17,15 @@ use Rattle.tables.specs.Layout.{PERIODIC-TABLE, TRIGGER-TABLE, sheetOf, padded}
 use Rattle.text.specs.Lines.{Lines, none, endless, line, lines}
 use Rattle.frames.specs.Frame.{bytesOf}
 use Rattle.kinds.specs.Kinds.{kind}
-use Rattle.walks.specs.Walks.{Going, goes, refused}
-use Rattle.readings.specs.declared.Reading.the-variants.{Good}
-use Rattle.hand_out.specs.Out.{ReadOutcome, readOutcome}
-use Rattle.split.specs.Split.{sheetLines, tapePart}
+use Rattle.line_readers.specs.Walks.{Going, goes, refused}
+use Rattle.reader.specs.declared.Reading.the-variants.{Good}
+use Rattle.reader.specs.Out.{ReadOutcome, readOutcome}
+use Rattle.day_split.specs.Split.{sheetLines, tapePart}
 use Rattle.tape_frames.specs.Frame.{ASK}
 use Rattle.tape_tests.specs.declared.Heard.{Heard}
 use Rattle.tape.specs.Tape.{unheard, lineAsks, asksIn}
-use Rattle.tape.specs.Laws.Accepted.{accepted-fine, fine-within}
-use Rattle.openings.specs.Opening.{INPUT-BYTES, opens, afterTape, afterSheet, sheetReading, opening}
+use Rattle.tape.specs.Laws.Fine.{accepted-fine, fine-within}
+use Rattle.day_input.specs.Opening.{INPUT-BYTES, opens, afterTape, afterSheet, sheetReading, opening}
 use Rattle.examples.specs.Written.{Requested, streamOf}
 use Rattle.examples.specs.Day.{text, Day, sheetOfDay}
 use Rattle.examples.specs.Laws.Passes.{readFound, heardTo, askOf, asksOf, sameAsked, heard, openFound}
@@ -106,9 +106,9 @@ module _ (d : Day) (good : GoodOrder (sheetOfDay d)) (nl : NoLoop (sheetOfDay d)
   pub opens-to : opening input ≡ opens (sheetOfDay d) (streamOf (d .requests)) (d .last)
   unfolding opening afterSheet afterTape
   opens-to =
-      let within : opening input ≡ afterSheet input (sheetReading input .answer) (sheetReading input .periodics) (sheetReading input .triggers) = rw (parts .0) refl in
+      let within : opening input ≡ afterSheet input (sheetReading input .answer) (sheetReading input .tables) = rw (parts .0) refl in
       within
-      ∙ (ap (λ (o : ReadOutcome). afterSheet input (o .answer) (o .periodics) (o .triggers)) opens-read
+      ∙ (ap (λ (o : ReadOutcome). afterSheet input (o .answer) (o .tables)) opens-read
       ∙ (ap (afterTape (sheetOfDay d) (lines (tapePart input))) (ended .1)
       ∙ ap₂ (λ (RQ : Stream) (last : ℕ). opens (sheetOfDay d) RQ last) asked (ended .2)))
 

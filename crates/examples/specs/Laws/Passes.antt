@@ -19,16 +19,16 @@ use Rattle.tables.specs.Layout.{PERIODIC-TABLE, TRIGGER-TABLE, padded}
 use Rattle.text.specs.Lines.{Lines, none, endless, line, lines}
 use Rattle.frames.specs.Frame.{bytesOf}
 use Rattle.kinds.specs.Kinds.{kind}
-use Rattle.readings.specs.declared.Read.{Read}
-use Rattle.walks.specs.Walks.{Going, goes, refused}
-use Rattle.line_acts.specs.Acts.{Progress}
-use Rattle.lines.specs.Lines.{reads}
-use Rattle.sheet.specs.Sheet.{start, lengthsFit}
-use Rattle.split.specs.Split.{sheetPart, tapePart, sheetLines}
+use Rattle.tables.specs.declared.Counts.{Counts}
+use Rattle.line_readers.specs.Walks.{Going, goes, refused}
+use Rattle.sheet_acts.specs.Acts.{Progress}
+use Rattle.reader.specs.Lines.{reads}
+use Rattle.reader.specs.Reading.{start, sheetLengthsFit}
+use Rattle.day_split.specs.Split.{sheetPart, tapePart, sheetLines}
 use Rattle.tape_frames.specs.Frame.{ASK, instantOf, askedIn}
 use Rattle.tape_tests.specs.declared.Heard.{Heard}
 use Rattle.tape.specs.Tape.{tapeRead}
-use Rattle.openings.specs.Opening.{INPUT-BYTES}
+use Rattle.day_input.specs.Opening.{INPUT-BYTES}
 use Rattle.day_lines.specs.Lines.{minuteLines}
 use Rattle.examples.specs.Written.{Prioritized, _∶_, at, first, among, Rule, triggerOf, ruleAt, sheetWith, Requested, _asked-at_after_, streamOf, Waits, waitAt, rolesIn, rowsIn, stateOf}
 use Rattle.examples.specs.Day.{text, Minute, Day, sheetOfDay, minuteAt, rolesBefore, waitsBefore, stateBefore}
@@ -118,16 +118,16 @@ same (a ∷ k) [] = false
 same (a ∷ k) (b ∷ l) = eqb a b && same k l
 
 -- the lines were read to these counts and tables
-abbrev pub readTo : Going Progress → Read → List ℕ → List ℕ → Bool
+abbrev pub readTo : Going Progress → Counts → List ℕ → List ℕ → Bool
 readTo (goes s) r p t =
-    ((eqb (s .seen .roles) (r .roles) && eqb (s .seen .periodics) (r .periodics)) && eqb (s .seen .triggers) (r .triggers))
-    && (same (s .periodics) p && same (s .triggers) t)
+    ((eqb (s .seen .counts .roles) (r .roles) && eqb (s .seen .counts .periodics) (r .periodics)) && eqb (s .seen .counts .triggers) (r .triggers))
+    && (same (s .tables .periodics) p && same (s .tables .triggers) t)
 readTo (refused r) _ p t = false
 
 -- the sheet's lines are read to what is expected
 unfoldable pub readFound : Day → Bool
 readFound d =
-    lengthsFit (length (sheetPart (text (d .input)))) (length (padded PERIODIC-TABLE [])) (length (padded TRIGGER-TABLE []))
+    sheetLengthsFit (length (sheetPart (text (d .input)))) (length (padded PERIODIC-TABLE [])) (length (padded TRIGGER-TABLE []))
     && readTo (reads (goes start) (lines (sheetPart (text (d .input))))) (d .read) (padded PERIODIC-TABLE (d .periodics)) (padded TRIGGER-TABLE (d .triggers))
 
 -- the tape's lines were read to this last instant

@@ -10,9 +10,9 @@ use Rattle.theory.specs.Graph.{NoLoop}
 use Rattle.theory.specs.Model.{noRoles}
 use Rattle.theory.specs.Box.{State, Fresh, Run, Within}
 use Rattle.theory.specs.Laws.Run.{canonical-run}
-use Rattle.openings.specs.Opening.{Opening, opens, opening}
+use Rattle.day_input.specs.Opening.{Opening, opens, opening}
 use Rattle.day_lines.specs.Laws.Lines.{lines-same}
-use Rattle.days.specs.Day.{Prints, PrintsDay}
+use Rattle.day_print.specs.Day.{Prints, PrintsDay}
 use Rattle.examples.specs.Written.{among, streamOf}
 use Rattle.examples.specs.Day.{text, Day, sheetOfDay, minuteAt, stateBefore, Found}
 use Rattle.examples.specs.Laws.Passes.{foundTrace, linesFound}

@@ -13,17 +13,18 @@ use Rattle.theory.specs.LoopTest.{PAIRS, loopPlace}
 use Rattle.theory.specs.Laws.Tests.{and-left, and-right}
 use Rattle.theory.specs.Laws.OneSolution.{good-heads}
 use Rattle.theory.specs.Laws.Loop.{noloop-says}
-use Rattle.tables.specs.Layout.{PERIODIC-TABLE, TRIGGER-TABLE, sheetOf, padded}
+use Rattle.tables.specs.Layout.{PERIODIC-TABLE, TRIGGER-TABLE, padded}
+use Rattle.tables.specs.Lent.{rules, sheetIn}
 use Rattle.text.specs.Lines.{lines}
-use Rattle.readings.specs.declared.Read.{Read}
-use Rattle.readings.specs.declared.Reading.the-variants.{Good}
-use Rattle.line_acts.specs.Acts.{Progress}
-use Rattle.walks.specs.Walks.{Going, goes, refused}
-use Rattle.lines.specs.Lines.{reads}
-use Rattle.hand_out.specs.Out.{readOutcome, sheetRead, handed, byLoop}
-use Rattle.sheet.specs.Sheet.{start, byLines, lengthsFit, reading}
-use Rattle.split.specs.Split.{sheetPart}
-use Rattle.openings.specs.Opening.{sheetReading}
+use Rattle.tables.specs.declared.Counts.{Counts}
+use Rattle.reader.specs.declared.Reading.the-variants.{Good}
+use Rattle.sheet_acts.specs.Acts.{Progress}
+use Rattle.line_readers.specs.Walks.{Going, goes, refused}
+use Rattle.reader.specs.Lines.{reads}
+use Rattle.reader.specs.Out.{readOutcome, sheetRead, byLoop}
+use Rattle.reader.specs.Reading.{start, byLines, sheetLengthsFit, reading}
+use Rattle.day_split.specs.Split.{sheetPart}
+use Rattle.day_input.specs.Opening.{sheetReading}
 use Rattle.examples.specs.Day.{text, Day, sheetOfDay}
 use Rattle.examples.specs.Laws.Passes.{same, readTo, readFound}
 
@@ -34,18 +35,18 @@ same-is (a ∷ k) [] h = absurd (false≢true h)
 same-is (a ∷ k) (b ∷ l) h = let x : a ≡ b = eqb-true a b (and-left (eqb a b) (same k l) h) in let y : k ≡ l = same-is k l (and-right (eqb a b) (same k l) h) in λ i. x i ∷ y i
 
 -- the lines were read to a state with these counts and tables
-record ReadTo (x : Going Progress) (r : Read) (p t : List ℕ) : Type 0 where
+record ReadTo (x : Going Progress) (r : Counts) (p t : List ℕ) : Type 0 where
   found : Progress
   goes-on : x ≡ goes found
-  hands : handed (found .seen) ≡ r
-  periodics : found .periodics ≡ p
-  triggers : found .triggers ≡ t
+  hands : found .seen .counts ≡ r
+  periodics : found .tables .periodics ≡ p
+  triggers : found .tables .triggers ≡ t
 
-read-to : (x : Going Progress) (r : Read) (p t : List ℕ) → readTo x r p t ≡ true → ReadTo x r p t
+read-to : (x : Going Progress) (r : Counts) (p t : List ℕ) → readTo x r p t ≡ true → ReadTo x r p t
 read-to (goes s) r p t h =
-    let a : Bool = eqb (s .seen .roles) (r .roles) in
-    let b : Bool = eqb (s .seen .periodics) (r .periodics) in
-    let c : Bool = eqb (s .seen .triggers) (r .triggers) in
+    let a : Bool = eqb (s .seen .counts .roles) (r .roles) in
+    let b : Bool = eqb (s .seen .counts .periodics) (r .periodics) in
+    let c : Bool = eqb (s .seen .counts .triggers) (r .triggers) in
     let ab = and-left (a && b) c (and-left ((a && b) && c) _ h) in
     let x = eqb-true _ _ (and-left a b ab) in
     let y = eqb-true _ _ (and-right a b ab) in
@@ -55,17 +56,17 @@ read-to (goes s) r p t h =
       found = s;
       goes-on = refl;
       hands = λ i. record { roles = x i; periodics = y i; triggers = z i };
-      periodics = same-is (s .periodics) p (and-left (same (s .periodics) p) _ tables);
-      triggers = same-is (s .triggers) t (and-right (same (s .periodics) p) _ tables);
+      periodics = same-is (s .tables .periodics) p (and-left (same (s .tables .periodics) p) _ tables);
+      triggers = same-is (s .tables .triggers) t (and-right (same (s .tables .periodics) p) _ tables);
     }
 read-to (refused f) r p t h = absurd (false≢true h)
 
 -- a state without a loop is handed out
-loopless : (s : Progress) (p t : List ℕ) (r : Read) (p′ t′ : List ℕ) → loopPlace (sheetOf (r .roles) (r .periodics) (r .triggers) p′ t′) ≡ PAIRS
-    → handed (s .seen) ≡ r → s .periodics ≡ p′ → s .triggers ≡ t′ → byLoop (loopPlace (sheetRead s)) s p t ≡ readOutcome (Good r) p′ t′
+loopless : (s : Progress) (p t : List ℕ) (r : Counts) (p′ t′ : List ℕ) → loopPlace (sheetIn (rules r p′ t′)) ≡ PAIRS
+    → s .seen .counts ≡ r → s .tables .periodics ≡ p′ → s .tables .triggers ≡ t′ → byLoop (loopPlace (sheetRead s)) s p t ≡ readOutcome (Good r) p′ t′
 unfolding byLoop
 loopless s p t r p′ t′ k h x y =
-    let z : loopPlace (sheetRead s) ≡ PAIRS = (λ i. loopPlace (sheetOf (h i .roles) (h i .periodics) (h i .triggers) (x i) (y i))) ∙ k in
+    let z : loopPlace (sheetRead s) ≡ PAIRS = (λ i. loopPlace (sheetIn (rules (h i) (x i) (y i)))) ∙ k in
     rw z (λ i. readOutcome (Good (h i)) (x i) (y i))
 
 -- THE LAW
@@ -74,7 +75,7 @@ pub reads-to : (d : Day) → GoodOrder (sheetOfDay d) → NoLoop (sheetOfDay d) 
 unfolding readFound reading byLines
 reads-to d good nl h =
     let sheet : List ℕ = sheetPart (text (d .input)) in
-    let fit : Bool = lengthsFit (length sheet) (length (padded PERIODIC-TABLE [])) (length (padded TRIGGER-TABLE [])) in
+    let fit : Bool = sheetLengthsFit (length sheet) (length (padded PERIODIC-TABLE [])) (length (padded TRIGGER-TABLE [])) in
     let r = read-to (reads (goes start) (lines sheet)) (d .read) (padded PERIODIC-TABLE (d .periodics)) (padded TRIGGER-TABLE (d .triggers)) (and-right fit _ h) in
     rw (and-left fit _ h, r .goes-on)
     (loopless (r .found) (padded PERIODIC-TABLE []) (padded TRIGGER-TABLE []) (d .read) (padded PERIODIC-TABLE (d .periodics)) (padded TRIGGER-TABLE (d .triggers))

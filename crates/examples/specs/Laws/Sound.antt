@@ -22,10 +22,10 @@ use Rattle.theory.specs.Laws.Exists.{fire, round}
 use Rattle.theory.specs.Laws.Levels.{levels-noloop}
 use Rattle.theory.specs.Laws.OneSolution.{levels-unique}
 use Rattle.theory.specs.Laws.Sentences.{never-both}
-use Rattle.judge.specs.Laws.{judge-refuses-not, judge-finds}
+use Rattle.table_judge.specs.Laws.{judge-refuses-not, judge-finds}
 use Rattle.examples.specs.Written.{Prioritized, at, among, Rule, triggerOf, ruleAt, Rest, sheetWith, Fits, rolesIn, rowsIn}
 use Rattle.examples.specs.Day.{Minute, Day, sheetOfDay, minuteAt, rolesBefore, waitsBefore, stateBefore, Found, Worked}
-use Rattle.examples.specs.Example.{Example, each, due-at, wins-over, accepted, loops, solved, as-given, never-fires, worked, rowOf, Wins, Accepted, Refused, OnlySolution, InBody, Says, Said}
+use Rattle.examples.specs.Example.{Example, each, due-at, wins-over, accepted, loops, solved, as-given, never-fires, worked, rowOf, Wins, SheetAccepted, SheetRefused, OnlySolution, InBody, Says, Said}
 use Rattle.examples.specs.Laws.Passes.{eachOf, goodOrder, rulesAlone, leveled, listed, loopsAt, selfCaused, opposed, openFound, minuteFound, minutesFound, linesFound, passes, passing}
 use Rattle.examples.specs.Laws.Listed.{beq-true, among-part}
 use Rattle.examples.specs.Laws.Solved.{caused-least, late-solves, late-only}
@@ -117,13 +117,13 @@ module _ (roles : ℕ) (rules : List Rule) (rest : Rest) where
   unfolding selfCaused round fire ready allows allBelow
   rules-solve ST G ms h = h
 
-  accepted-is : (levels : List ℕ) → Fits roles rest → passes (accepted roles rules levels) ≡ true → Accepted sh
+  accepted-is : (levels : List ℕ) → Fits roles rest → passes (accepted roles rules levels) ≡ true → SheetAccepted sh
   accepted-is levels f h =
       let good : GoodOrder sh = rules-good f (and-left (goodOrder (rulesAlone roles rules)) _ h) in
       let nl : NoLoop sh = levels-noloop sh (listed levels) (rules-levels levels (and-right (goodOrder (rulesAlone roles rules)) _ h)) in
       record { good = good; no-loop = nl; verdict = judge-refuses-not sh good nl }
 
-  loops-is : (place : ℕ) (back : List ℕ) → Fits roles rest → passes (loops roles rules place back) ≡ true → Refused sh place
+  loops-is : (place : ℕ) (back : List ℕ) → Fits roles rest → passes (loops roles rules place back) ≡ true → SheetRefused sh place
   loops-is place back f h =
       let good : GoodOrder sh = rules-good f (and-left (goodOrder (rulesAlone roles rules)) _ h) in
       let loop : LoopAt sh place = rules-loop place back (and-right (goodOrder (rulesAlone roles rules)) _ h) in

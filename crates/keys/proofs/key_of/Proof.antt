@@ -2,7 +2,7 @@
 -- Assumes nothing.
 use mathlib.Core.Path.{sym, ap, _∙_}
 use borrow.Author.Tests.{not-true, not-false}
-use Rattle.theory.specs.Laws.Stage.{key-uncounted, key-forbidden, key-raised}
+use Rattle.theory.specs.Laws.Solving.{key-uncounted, key-forbidden, key-raised}
 use Rattle.tables.specs.Layout.{byteAt, sheetOf}
 use Rattle.tables.specs.Laws.{head-byte}
 use borrow.Author.Needs.{needs}

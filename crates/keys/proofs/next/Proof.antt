@@ -3,8 +3,8 @@
 use mathlib.Core.Path.{_∙_, ap}
 use Prim.Native.Nat.{ℕ, _+_, _-_, _≤_, _<_}
 use lib.ListN.{getD}
-use Rattle.theory.specs.Stage.{Gap}
-use Rattle.theory.specs.Laws.Stage.{gap-first}
+use Rattle.theory.specs.Solving.{Gap}
+use Rattle.theory.specs.Laws.Solving.{gap-first}
 use Rattle.keys.specs.Keys.{KEYS, Chained}
 use Rattle.keys.specs.Laws.{chained-gap}
 use borrow.Author.Needs.{needs}

@@ -10,11 +10,8 @@ is-sized-requires c κs = search needs
 may-stand-requires : tie.Need-may-stand-requires
 may-stand-requires c κs = search needs
 
-both-requires : tie.Need-both-requires
-both-requires c κs = search needs
-
 returns : tie.Need-returns
 returns c = cc
 
 pub is-kind-spec : {M : Type 1} → statement M
-is-kind-spec = tie.close (tie.spec is-sized-requires may-stand-requires both-requires returns)
+is-kind-spec = tie.close (tie.spec is-sized-requires may-stand-requires returns)

@@ -11,12 +11,6 @@ enum-told c = search needs
 enum-told-2 : tie.Need-enum-told-2
 enum-told-2 c = search needs
 
-either-requires : tie.Need-either-requires
-either-requires c κs = search needs
-
-either-requires-2 : tie.Need-either-requires-2
-either-requires-2 c κs = search needs
-
 enum-told-3 : tie.Need-enum-told-3
 enum-told-3 c = search needs
 
@@ -26,7 +20,7 @@ returns c = rw (c .enum-told .given .1)
 
 returns-2 : tie.Need-returns-2
 unfolding mayStand
-returns-2 c = rw (c .before .before .enum-told2 .given .1) (cc)
+returns-2 c = rw (c .enum-told2 .given .1)
 
 returns-3 : tie.Need-returns-3
 unfolding mayStand
@@ -38,8 +32,6 @@ may-stand-spec =
     (tie.spec
     enum-told
     enum-told-2
-    either-requires
-    either-requires-2
     enum-told-3
     returns
     returns-2

@@ -12,7 +12,7 @@ use lib.Seq.{paste, take-at, take-length, drop-append-add, drop-at}
 use borrow.Author.Tests.{eqb-true}
 use Rattle.theory.specs.Laws.Tests.{test}
 use Rattle.kinds.specs.Kinds.{kind}
-use Rattle.line_acts.specs.Acts.{tableAfter}
+use Rattle.sheet_acts.specs.Acts.{tableAfter}
 use Rattle.line_by_line.specs.Tests.{howMany}
 use Rattle.tables.specs.Layout.{padded}
 use Rattle.line_by_line.specs.ComesBack.{rowsOf}

@@ -16,16 +16,17 @@ use Rattle.theory.specs.Laws.Tests.{test}
 use Rattle.answers.specs.declared.Name.{Name}
 use Rattle.answers.specs.declared.Name.the-variants.{Frame, Kind}
 use Rattle.answers.specs.declared.Verdict.{Verdict}
+use Rattle.answers.specs.Answers.{refusal}
 use Rattle.text.specs.Lines.{Lines, none, endless, line, lines}
 use Rattle.frames.specs.Frame.{bytesOf}
 use Rattle.kinds.specs.declared.Stage.the-variants.{Rows, Ended}
 use Rattle.kinds.specs.Kinds.{END}
-use Rattle.walks.specs.Walks.{Going, goes, refused, byVerdict, walks}
-use Rattle.walks.specs.Laws.{walks-refused}
-use Rattle.line_acts.specs.Acts.{Progress, after}
-use Rattle.lines.specs.Line.{lineStep}
-use Rattle.lines.specs.Lines.{atEnd, sheetReader, reads}
-use Rattle.sheet.specs.Sheet.{start}
+use Rattle.line_readers.specs.Walks.{Going, goes, refused, byVerdict, walks}
+use Rattle.line_readers.specs.Laws.Walks.{walks-refused}
+use Rattle.sheet_acts.specs.Acts.{Progress, after}
+use Rattle.reader.specs.Line.{lineStep}
+use Rattle.reader.specs.Lines.{atEnd, sheetReader, reads}
+use Rattle.reader.specs.Reading.{start}
 use Rattle.line_by_line.specs.Lines.{endedLines, linesIn, restIn}
 use Rattle.line_by_line.specs.Tests.{howMany, order, allPass, FirstFails}
 use Rattle.line_by_line.specs.ComesBack.{framesOf, Passes, Fails, Fault, fails, no-final, no-end, RefusedAt, ReadsWhole}
@@ -37,7 +38,7 @@ use Rattle.line_by_line.specs.Laws.Taken.{taken}
 
 -- what comes of the lines, by the words: a refusal at its line, or what the frames say
 pub data Way (all : List (List ℕ)) (rest : List ℕ) (x : Going Progress) : Type 0 where
-  stops : (name : Name) (k : ℕ) → RefusedAt all rest name k → x ≡ refused (record { name = name; place = k }) → Way all rest x
+  stops : (name : Name) (k : ℕ) → RefusedAt all rest name k → x ≡ refused (refusal name k) → Way all rest x
   goes-on : ReadsWhole all rest → x ≡ goes (said (framesOf all)) → Way all rest x
 
 -- one line: it goes on with one frame more, or is refused at its number
@@ -48,7 +49,7 @@ module _ (fs : List (List ℕ)) (l : List ℕ) where
       ap (λ (v : Verdict). byVerdict v (after (said fs) (bytesOf l))) (judge-same fs l (length fs + 1) ∙ judged-pass fs l order (length fs + 1) h)
       ∙ ap goes (taken fs l h)
 
-  line-fails : (name : Name) → FirstFails order name fs l → lineStep (said fs) l ≡ refused (record { name = name; place = length fs + 1 })
+  line-fails : (name : Name) → FirstFails order name fs l → lineStep (said fs) l ≡ refused (refusal name (length fs + 1))
   unfolding lineStep byVerdict
   line-fails name x = ap (λ (v : Verdict). byVerdict v (after (said fs) (bytesOf l))) (judge-same fs l (length fs + 1) ∙ judged-fail fs l order name (length fs + 1) x)
 

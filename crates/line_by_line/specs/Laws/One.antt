@@ -9,7 +9,7 @@ use native.Mathlib.Omega.{arith}
 use lib.ListN.{length}
 use Rattle.answers.specs.declared.Name.{Name}
 use Rattle.answers.specs.declared.Refusal.{Refusal}
-use Rattle.answers.specs.Answers.{refuse}
+use Rattle.answers.specs.Answers.{refusal, refuse}
 use Rattle.answers.specs.Laws.{no-pass}
 use Rattle.line_by_line.specs.Tests.{order}
 use Rattle.line_by_line.specs.ComesBack.{framesBefore, theLine, Passes, Fails, Fault, fails, no-final, no-end, RefusedAt, ReadsWhole}
@@ -23,7 +23,7 @@ module _ (all : List (List ℕ)) (rest : List ℕ) where
   fails-one : (a b : Name) (k : ℕ) → Fails a all k → Fails b all k → a ≡ b
   fails-one a b k f g =
       let e : refuse a k ≡ refuse b k = sym (judged-fail (framesBefore all k) (theLine all k) order a k f) ∙ judged-fail (framesBefore all k) (theLine all k) order b k g in
-      let q : _≡_ {A = Refusal} (record { name = a; place = k }) (record { name = b; place = k }) = cc in
+      let q : refusal a k ≡ refusal b k = cc in
       ap (λ (r : Refusal). r .name) q
 
   -- a fault is at a line, or at the one after the last

@@ -7,10 +7,10 @@ use lib.Dec.{eqb}
 use lib.ListN.{length}
 use Rattle.kinds.specs.declared.Stage.{Stage}
 use Rattle.kinds.specs.declared.Stage.the-variants.{Start, Rows, Ended}
-use Rattle.kinds.specs.Kinds.{PERIODIC, TRIGGER, END}
-use Rattle.line_acts.specs.Acts.{Progress, progress}
-use Rattle.line_by_line.specs.Tests.{howMany, roleCount}
-use Rattle.line_by_line.specs.ComesBack.{periodicTable, triggerTable}
+use Rattle.kinds.specs.Kinds.{END}
+use Rattle.sheet_acts.specs.Acts.{Progress, progress}
+use Rattle.line_by_line.specs.Tests.{howMany}
+use Rattle.line_by_line.specs.ComesBack.{periodicTable, triggerTable, countsOf}
 
 -- where the reader stands: before the header, after it, or after an end
 abbrev pub stageAfter : List (List ℕ) → Stage
@@ -19,8 +19,4 @@ stageAfter (f ∷ fs) = cond (eqb (howMany END (f ∷ fs)) 0) Rows Ended
 
 -- all that was read of these frames
 abbrev pub said : List (List ℕ) → Progress
-said fs =
-    progress
-    (record { line = length fs; stage = stageAfter fs; roles = roleCount fs; periodics = howMany PERIODIC fs; triggers = howMany TRIGGER fs })
-    (periodicTable fs)
-    (triggerTable fs)
+said fs = progress (record { line = length fs; stage = stageAfter fs; counts = countsOf fs }) (periodicTable fs) (triggerTable fs)

@@ -22,8 +22,8 @@ use Rattle.kinds.specs.declared.Stage.the-variants.{Rows, Ended}
 use Rattle.kinds.specs.Kinds.{HEADER, PERIODIC, TRIGGER, END, kind, sized}
 use Rattle.row_counts.specs.Counts.{roomFor}
 use Rattle.row_counts.specs.Laws.{room-periodics, room-triggers}
-use Rattle.line_tests.specs.declared.Seen.{Seen}
-use Rattle.line_acts.specs.Acts.{seenAfter, tableAfter, progress, after}
+use Rattle.sheet_tests.specs.declared.Seen.{Seen}
+use Rattle.sheet_acts.specs.Acts.{seenAfter, tableAfter, progress, after}
 use Rattle.line_by_line.specs.Tests.{howMany, known, inPlace, passes, order, allPass}
 use Rattle.line_by_line.specs.ComesBack.{rowsOf, periodicTable, triggerTable}
 use Rattle.line_by_line.specs.Laws.Frames.{count-more, rows-more, rows-length, table-after}
@@ -87,9 +87,12 @@ module _ (g : List ℕ) (gs : List (List ℕ)) (f : List ℕ) (no-end : howMany 
       record {
         line = one-more i;
         stage = goes-on (λ (x : kind f ≡ END). omega arith) i;
-        roles = sofar .roles;
-        periodics = counted PERIODIC e i;
-        triggers = kept TRIGGER (λ (x : kind f ≡ TRIGGER). omega arith) i;
+        counts =
+            record {
+              roles = sofar .counts .roles;
+              periodics = counted PERIODIC e i;
+              triggers = kept TRIGGER (λ (x : kind f ≡ TRIGGER). omega arith) i;
+            };
       })
 
   seen-trigger : kind f ≡ TRIGGER → Adds
@@ -100,9 +103,12 @@ module _ (g : List ℕ) (gs : List (List ℕ)) (f : List ℕ) (no-end : howMany 
       record {
         line = one-more i;
         stage = goes-on (λ (x : kind f ≡ END). omega arith) i;
-        roles = sofar .roles;
-        periodics = kept PERIODIC (λ (x : kind f ≡ PERIODIC). omega arith) i;
-        triggers = counted TRIGGER e i;
+        counts =
+            record {
+              roles = sofar .counts .roles;
+              periodics = kept PERIODIC (λ (x : kind f ≡ PERIODIC). omega arith) i;
+              triggers = counted TRIGGER e i;
+            };
       })
 
   seen-end : kind f ≡ END → Adds
@@ -113,9 +119,12 @@ module _ (g : List ℕ) (gs : List (List ℕ)) (f : List ℕ) (no-end : howMany 
       record {
         line = one-more i;
         stage = ends e i;
-        roles = sofar .roles;
-        periodics = kept PERIODIC (λ (x : kind f ≡ PERIODIC). omega arith) i;
-        triggers = kept TRIGGER (λ (x : kind f ≡ TRIGGER). omega arith) i;
+        counts =
+            record {
+              roles = sofar .counts .roles;
+              periodics = kept PERIODIC (λ (x : kind f ≡ PERIODIC). omega arith) i;
+              triggers = kept TRIGGER (λ (x : kind f ≡ TRIGGER). omega arith) i;
+            };
       })
 
 -- of a kind that there is, in its place

@@ -8,11 +8,11 @@ use Prim.Native.Nat.{ℕ}
 use lib.Dec.{eqb}
 use borrow.Author.Tests.{eqb-true}
 use Rattle.theory.specs.Laws.Tests.{test}
-use Rattle.line_order.specs.Order.{inOrder}
+use Rattle.line_readers.specs.Order.{inOrder}
 use Rattle.frames.specs.Frame.{bytesOf}
 use Rattle.kinds.specs.declared.Stage.the-variants.{Rows, Ended}
 use Rattle.kinds.specs.Kinds.{HEADER, PERIODIC, TRIGGER, END, kind, sized, mayStand}
-use Rattle.line_tests.specs.Judge.{lineTests, judgeLine}
+use Rattle.sheet_tests.specs.Judge.{lineTests, judgeLine}
 use Rattle.line_by_line.specs.Tests.{howMany, known, inPlace, passes, order}
 use Rattle.line_by_line.specs.Laws.Order.{judged}
 use Rattle.line_by_line.specs.Laws.Said.{stageAfter, said}

@@ -4,7 +4,7 @@ use mathlib.Core.Path.{ap, ap₂, _∙_}
 use Prim.Native.Nat.{ℕ, _+_, _-_, _≤_}
 use lib.ListN.{getD}
 use Rattle.theory.specs.Below.{one}
-use Rattle.event_rows.specs.Row.{reaches}
+use Rattle.reach_row.specs.Row.{reaches}
 use Rattle.loops.specs.Laws.Levels.{Filled, filled-none, filled-next, filled-end}
 use borrow.Author.Needs.{needs}
 use native.Mathlib.Omega.{arith}

@@ -5,8 +5,8 @@ use mathlib.Core.Logic.{⊎-elim}
 use mathlib.Core.Bool.{false}
 use Prim.Native.Nat.{ℕ, _+_, _-_, _*_, _≤_, _<_}
 use native.Mathlib.Omega.{arith}
-use Rattle.rows.specs.Rows.{edgesOf}
-use Rattle.rows.specs.Laws.Rows.{no-edge}
+use Rattle.reach_rows.specs.Rows.{edgesOf}
+use Rattle.reach_rows.specs.Laws.Rows.{no-edge}
 use Rattle.loops.specs.Tested.{cycleAt}
 use Rattle.loops.specs.Laws.Search.{pairs-next, pairs-past, first-pair, no-pair}
 use borrow.Author.Needs.{needs}

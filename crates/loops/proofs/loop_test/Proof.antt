@@ -8,6 +8,9 @@ use Rattle.loops.proofs.loop_test.Tie as tie
 nodes-requires : tie.Need-nodes-requires
 nodes-requires c κs = search needs
 
+none-requires : tie.Need-none-requires
+none-requires c κs = search needs
+
 draw-requires : tie.Need-draw-requires
 draw-requires c κs = search needs
 
@@ -28,15 +31,17 @@ returns c = let f = c .before .before in
     let r = f .before .before .before in
     let e = r .before in
     let m = e .before .before .before in
-    let h = m .before .before .before in
+    let o = m .before .before .before in
+    let h = o .before in
     let a = h .before .before .args in
-    tested-is (a .n) _ _ _ _ _ (h .nodes .ensures) (m .draw .ensures) (e .draw2 .ensures) (r .closed .ensures) _ _ (f .first-cycle .ensures) (c .levels .ensures)
+    tested-is (a .n) _ _ _ _ _ _ (h .nodes .ensures) (o .none .ensures) (m .draw .ensures) (e .draw2 .ensures) (r .closed .ensures) _ _ (f .first-cycle .ensures) (c .levels .ensures)
 
 pub loop-test-spec : {M : Type 1} → statement M
 loop-test-spec =
     tie.close
     (tie.spec
     nodes-requires
+    none-requires
     draw-requires
     draw-requires-2
     closed-requires

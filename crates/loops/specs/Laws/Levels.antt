@@ -12,9 +12,9 @@ use lib.Seq.{getD-set-same, getD-set-other, ext-getD}
 use Rattle.theory.specs.Numbers.{EVENTS}
 use Rattle.theory.specs.Below.{one, countBelow}
 use Rattle.theory.specs.Laws.Below.{below-cases, count-le, count-none, count-next}
-use Rattle.event_rows.specs.Row.{Row, reaches}
-use Rattle.rows.specs.Rows.{edgesOf}
-use Rattle.rows.specs.Laws.Rows.{edge-row}
+use Rattle.reach_row.specs.Row.{Row, reaches}
+use Rattle.reach_rows.specs.Rows.{edgesOf}
+use Rattle.reach_rows.specs.Laws.Rows.{edge-row}
 use Rattle.loops.specs.Tested.{tabulate}
 
 -- tests that are the same below n have the same count

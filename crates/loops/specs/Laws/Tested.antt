@@ -5,7 +5,6 @@ use mathlib.Core.Bool.{Bool, true, false, _&&_, _||_, or-comm}
 use mathlib.Core.List.{List}
 use Prim.Native.Nat.{ℕ, _/_, _%_, _<_}
 use native.Mathlib.Omega.{arith}
-use lib.ListN.{replicate}
 use Rattle.theory.specs.Numbers.{EVENTS}
 use Rattle.theory.specs.Below.{countBelow, firstBelow}
 use Rattle.theory.specs.Sheet.{Sheet}
@@ -13,9 +12,9 @@ use Rattle.theory.specs.Graph.{node, plus, minus, edge}
 use Rattle.theory.specs.LoopTest.{through, reach, PAIRS, loopPlace, levelOf}
 use Rattle.theory.specs.Laws.First.{first-same}
 use Rattle.tables.specs.Layout.{triggersOf}
-use Rattle.event_rows.specs.Row.{Row, RowIs}
-use Rattle.rows.specs.Rows.{edgesOf, RowsAre, Become}
-use Rattle.rows.specs.Laws.Rows.{rows-same, rows-say, empty-rows}
+use Rattle.reach_row.specs.Row.{Row, RowIs}
+use Rattle.reach_rows.specs.Rows.{edgesOf, RowsAre, Become}
+use Rattle.reach_rows.specs.Laws.Rows.{rows-same, rows-say}
 use Rattle.edges.specs.Drawing.{tailOf, drawsBelow, addedFrom}
 use Rattle.edges.specs.Laws.{draws-all}
 use Rattle.loops.specs.declared.Found.{Found}
@@ -42,15 +41,16 @@ module _ (sh : Sheet) (ms rs : List Row) (hm : RowsAre (minus sh) ms) (hr : Rows
       (λ e l. count-same EVENTS (λ x. edgesOf rs x e) (λ x. reach sh x e) (λ x m. rows-say hr x e m l))
 
 -- THE LAW: the rows as the code makes them one after the other
-module _ (n : ℕ) (table : List ℕ) (heads : Row) (ms es rs : List Row) (hh : RowIs (node (triggersOf n table)) heads)
-    (hm : Become (addedFrom heads (drawsBelow (tailOf true) (triggersOf n table) n)) (replicate EVENTS (replicate EVENTS false)) ms)
+module _ (n : ℕ) (table : List ℕ) (heads : Row) (none ms es rs : List Row) (hh : RowIs (node (triggersOf n table)) heads)
+    (hn : RowsAre (λ _ _. false) none)
+    (hm : Become (addedFrom heads (drawsBelow (tailOf true) (triggersOf n table) n)) none ms)
     (he : Become (addedFrom heads (drawsBelow (tailOf false) (triggersOf n table) n)) ms es)
     (hr : Become (λ E. through E EVENTS) es rs) where
   abbrev sh : Sheet
   sh = triggersOf n table
 
   minus-are : RowsAre (minus sh) ms
-  minus-are = rows-same (minus sh) (λ x y l _. draws-all (tailOf true) heads n table hh x y l) (hm (λ _ _. false) empty-rows)
+  minus-are = rows-same (minus sh) (λ x y l _. draws-all (tailOf true) heads n table hh x y l) (hm (λ _ _. false) hn)
 
   edges-are : RowsAre (edge sh) es
   unfolding edge

@@ -3,7 +3,7 @@
 use Prim.Native.Nat.{_-_, _≤_}
 use Rattle.theory.specs.Graph.{Edges}
 use Rattle.theory.specs.LoopTest.{through}
-use Rattle.rows.specs.Rows.{RowsAre}
+use Rattle.reach_rows.specs.Rows.{RowsAre}
 use Rattle.reach.specs.Laws.{through-end}
 use borrow.Author.Needs.{needs}
 use Rattle.reach.proofs.closed.Statement.{statement}

@@ -2,7 +2,7 @@
 -- Assumes nothing.
 use mathlib.Core.Path.{sym, _∙_}
 use Rattle.theory.specs.LoopTest.{through}
-use Rattle.rows.specs.Laws.Rows.{rows-say, no-edge}
+use Rattle.reach_rows.specs.Laws.Rows.{rows-say, no-edge}
 use Rattle.reach.specs.Laws.{through-more, through-past}
 use borrow.Author.Needs.{needs}
 use Rattle.reach.proofs.go_through.Statement.{statement}

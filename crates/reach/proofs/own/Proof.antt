@@ -2,7 +2,7 @@
 -- Assumes nothing.
 use Prim.Native.Nat.{_-_, _≤_}
 use lib.Dec.{eqb}
-use Rattle.rows.specs.Rows.{Become}
+use Rattle.reach_rows.specs.Rows.{Become}
 use Rattle.reach.specs.Laws.{soFar, far-none, own-next, own-end}
 use borrow.Author.Needs.{needs}
 use Rattle.reach.proofs.own.Statement.{statement}

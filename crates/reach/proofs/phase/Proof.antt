@@ -1,7 +1,7 @@
 -- `reach::phase` meets its contract. The loop's invariant: the rows below a have taken over what k reaches. Row k and column k stay as they were, so that it can be done in place.
 -- Assumes nothing.
 use Prim.Native.Nat.{_-_, _≤_}
-use Rattle.rows.specs.Rows.{Become}
+use Rattle.reach_rows.specs.Rows.{Become}
 use Rattle.reach.specs.Laws.{soFar, onward, far-none, phase-next, phase-end}
 use borrow.Author.Needs.{needs}
 use Rattle.reach.proofs.phase.Statement.{statement}

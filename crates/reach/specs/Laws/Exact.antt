@@ -4,9 +4,9 @@ use mathlib.Core.Path.{_≡_}
 use mathlib.Core.List.{List}
 use Rattle.theory.specs.Numbers.{EVENTS}
 use Rattle.theory.specs.LoopTest.{through}
-use Rattle.event_rows.specs.Row.{Row}
-use Rattle.rows.specs.Rows.{Become, wholeRows}
-use Rattle.rows.specs.Laws.Exact.{become-exact}
+use Rattle.reach_row.specs.Row.{Row}
+use Rattle.reach_rows.specs.Rows.{Become, wholeRows}
+use Rattle.reach_rows.specs.Laws.Exact.{become-exact}
 
 pub closed-exact : (edges r r′ : List Row) → wholeRows edges → Become (λ E. through E EVENTS) edges r → Become (λ E. through E EVENTS) edges r′ → r ≡ r′
 closed-exact edges = become-exact (λ E. through E EVENTS) edges

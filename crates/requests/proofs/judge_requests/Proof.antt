@@ -27,17 +27,21 @@ request-at-requires c κs = search needs
 request-fits-requires : tie.Need-request-fits-requires Inv-loop μ-loop
 request-fits-requires c κs = search needs
 
-cast-t9 : tie.Need-cast-t9 Inv-loop μ-loop
-cast-t9 c = search needs
+cast-refuse : tie.Need-cast-refuse Inv-loop μ-loop
+cast-refuse c = search needs
+
+refuse-requires : tie.Need-refuse-requires Inv-loop μ-loop
+refuse-requires c κs = search needs
 
 returns : tie.Need-returns Inv-loop μ-loop
 returns c =
-    let r = c .before .before in
+    let t = c .before in
+    let r = t .before .before in
     let l = r .before .before .loop in
     let a = r .before .before .before .before .args in
     let f = outside (a .roles) (flat (a .asked .now) (a .n)) in
-    let here = ap not (sym (c .before .request-fits .ensures ∙ ap (fits (a .roles)) (r .request-at .ensures))) ∙ c .if1 .taken in
-    outside-here (a .roles) (flat (a .asked .now) (a .n)) (l .k) (r .before .loop-test .taken) (search-found (l .k) f (l .inv .1) (a .n) (r .before .loop-test .taken) here)
+    let here = ap not (sym (t .before .request-fits .ensures ∙ ap (fits (a .roles)) (r .request-at .ensures))) ∙ t .if1 .taken in
+    c .refuse .ensures ∙ outside-here (a .roles) (flat (a .asked .now) (a .n)) (l .k) (r .before .loop-test .taken) (search-found (l .k) f (l .inv .1) (a .n) (r .before .loop-test .taken) here)
 
 add-k : tie.Need-add-k Inv-loop μ-loop
 add-k c = search needs
@@ -68,7 +72,8 @@ judge-requests-spec =
     loop-holds
     request-at-requires
     request-fits-requires
-    cast-t9
+    cast-refuse
+    refuse-requires
     returns
     add-k
     loop-less

@@ -1,7 +1,7 @@
--- `requests::request_fits` meets its contract: it is the definition's tests.
+-- `requests::request_fits` meets its contract: its tests are those of a request's limits.
 -- Assumes nothing.
-use mathlib.Core.Path.{refl}
-use Rattle.theory.specs.Instant.{requestFits}
+use Rattle.requests.specs.Laws.{fits-tests}
+use Rattle.requests.specs.Asked.{requestOf}
 use borrow.Author.Needs.{needs}
 use Rattle.requests.proofs.request_fits.Statement.{statement}
 use Rattle.requests.proofs.request_fits.Tie as tie
@@ -9,15 +9,11 @@ use Rattle.requests.proofs.request_fits.Tie as tie
 of-roles-requires : tie.Need-of-roles-requires
 of-roles-requires c κs = search needs
 
-both-requires : tie.Need-both-requires
-both-requires c κs = search needs
-
-both-requires-2 : tie.Need-both-requires-2
-both-requires-2 c κs = search needs
-
 returns : tie.Need-returns
-unfolding requestFits
-returns c = rw (c .both2 .ensures, c .before .both .ensures, c .before .before .before .before .of-roles .ensures) refl
+returns c =
+    let f = c .before .before in
+    let a = f .before .args in
+    rw (f .of-roles .ensures) (fits-tests (a .roles) (requestOf (a .r)))
 
 pub request-fits-spec : {M : Type 1} → statement M
-request-fits-spec = tie.close (tie.spec of-roles-requires both-requires both-requires-2 returns)
+request-fits-spec = tie.close (tie.spec of-roles-requires returns)

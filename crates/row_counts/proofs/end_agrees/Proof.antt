@@ -10,23 +10,8 @@ byte-at-requires c κs = search needs
 wide-requires : tie.Need-wide-requires
 wide-requires c κs = search needs
 
-byte-at-requires-2 : tie.Need-byte-at-requires-2
-byte-at-requires-2 c κs = search needs
-
-wide-requires-2 : tie.Need-wide-requires-2
-wide-requires-2 c κs = search needs
-
-mul-b : tie.Need-mul-b
-mul-b c = search needs
-
-byte-at-requires-3 : tie.Need-byte-at-requires-3
-byte-at-requires-3 c κs = search needs
-
-wide-requires-3 : tie.Need-wide-requires-3
-wide-requires-3 c κs = search needs
-
-add-b : tie.Need-add-b
-add-b c = search needs
+two-at-requires : tie.Need-two-at-requires
+two-at-requires c κs = search needs
 
 wide16-requires : tie.Need-wide16-requires
 wide16-requires c κs = search needs
@@ -46,12 +31,7 @@ end-agrees-spec =
     (tie.spec
     byte-at-requires
     wide-requires
-    byte-at-requires-2
-    wide-requires-2
-    mul-b
-    byte-at-requires-3
-    wide-requires-3
-    add-b
+    two-at-requires
     wide16-requires
     wide16-requires-2
     counts-agree-requires

@@ -3,8 +3,8 @@
 use mathlib.Core.Path.{_≡_, refl, _∙_}
 use Prim.Native.Nat.{_-_, _≤_, _<_}
 use lib.ListN.{length}
-use Rattle.theory.specs.Stage.{Reached}
-use Rattle.theory.specs.Laws.Stage.{reached-first, reached-next}
+use Rattle.theory.specs.Solving.{Reached}
+use Rattle.theory.specs.Laws.Solving.{reached-first, reached-next}
 use Rattle.tables.specs.Layout.{sheetOf, triggersOf}
 use Rattle.tables.specs.Buffers.{eventsOf}
 use Rattle.keys.specs.Keys.{KEYS, keyIn}

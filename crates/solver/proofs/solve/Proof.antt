@@ -12,9 +12,6 @@ returns c = solved-none _ _ _ _ _ (λ l m. c .if1 .taken l)
 returns-2 : tie.Need-returns-2
 returns-2 c = solved-none _ _ _ _ _ (λ l m. omega (arith, c .if2 .taken))
 
-slice-aggregate-by-keys : tie.Need-slice-aggregate-by-keys
-slice-aggregate-by-keys c = search needs
-
 by-keys-requires : tie.Need-by-keys-requires
 by-keys-requires c κs = search needs
 
@@ -27,4 +24,4 @@ returns-3 c = c .before .before .by-keys .ensures
 pub solve-spec : {M : Type 1} → statement M
 solve-spec =
     tie.close
-    (tie.spec returns returns-2 slice-aggregate-by-keys by-keys-requires same-length returns-3)
+    (tie.spec returns returns-2 by-keys-requires same-length returns-3)

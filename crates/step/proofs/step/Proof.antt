@@ -1,8 +1,8 @@
 -- `step::step` meets its contract: by the verdict on lengths, instant and number of requests, and then by that of `step_within`.
 -- Assumes nothing.
 use native.Mathlib.Omega.{arith}
-use Rattle.row_judge.specs.Judge.{rules}
-use Rattle.step.specs.Outcome.{lent, lengthsFit}
+use Rattle.tables.specs.Lent.{rules, lent}
+use Rattle.step.specs.Outcome.{lengthsFit}
 use Rattle.step.specs.Laws.Whole.{outer-ready, outer-few, outer-passed, outer-refused}
 use borrow.Author.Needs.{needs}
 use Rattle.step.proofs.step.Statement.{statement}
@@ -23,7 +23,7 @@ cast-step-within c =
     let n = c .before in
     let v = n .before .before in
     let a = v .before .before .before .before .before .before .args in
-    let few = outer-few (rules (a .roles) (a .periodic-count) (a .trigger-count) (a .periodics .now) (a .triggers .now)) (a .t6) (a .n) (lent (a .instant .now) (a .enabled .now) (a .waiting .now) (a .events .now))
+    let few = outer-few (rules (a .counts) (a .periodics .now) (a .triggers .now)) (a .t4) (a .n) (lent (a .instant .now) (a .enabled .now) (a .waiting .now) (a .events .now))
     _ (v .judge-first .ensures) (n .enum-told .given .1) in
     omega (arith, few)
 
@@ -33,7 +33,7 @@ step-within-requires c κs =
     let n = c .before .before .before .before .before in
     let v = n .before .before in
     let a = v .before .before .before .before .before .before .args in
-    outer-ready (rules (a .roles) (a .periodic-count) (a .trigger-count) (a .periodics .now) (a .triggers .now)) (a .t6) (a .n) (lent (a .instant .now) (a .enabled .now) (a .waiting .now) (a .events .now))
+    outer-ready (rules (a .counts) (a .periodics .now) (a .triggers .now)) (a .t4) (a .n) (lent (a .instant .now) (a .enabled .now) (a .waiting .now) (a .events .now))
     _ (v .judge-first .ensures) (n .enum-told .given .1)
 
 enum-known-first : tie.Need-enum-known-first
@@ -52,15 +52,16 @@ returns c =
     let n = s .before .before .before .before .before .before in
     let v = n .before .before in
     let a = v .before .before .before .before .before .before .args in
-    outer-passed (rules (a .roles) (a .periodic-count) (a .trigger-count) (a .periodics .now) (a .triggers .now)) (a .t6) (a .n) (lent (a .instant .now) (a .enabled .now) (a .waiting .now) (a .events .now))
-    _ (v .judge-first .ensures) _ _ (n .enum-told .given .1) (s .step-within .ensures)
+    let b = s .step-within .last .1 .1 .1 .1 .1 in
+    outer-passed (rules (a .counts) (a .periodics .now) (a .triggers .now)) (a .t4) (a .n) (lent (a .instant .now) (a .enabled .now) (a .waiting .now) (a .events .now))
+    _ (v .judge-first .ensures) _ (lent (b .0) (b .1 .0) (b .1 .1 .0) (b .1 .1 .1 .0)) (n .enum-told .given .1) (s .step-within .ensures)
 
 returns-2 : tie.Need-returns-2
 unfolding lengthsFit
 returns-2 c =
     let v = c .before .before .before in
     let a = v .before .before .before .before .before .before .args in
-    outer-refused (rules (a .roles) (a .periodic-count) (a .trigger-count) (a .periodics .now) (a .triggers .now)) (a .t6) (a .n) (lent (a .instant .now) (a .enabled .now) (a .waiting .now) (a .events .now))
+    outer-refused (rules (a .counts) (a .periodics .now) (a .triggers .now)) (a .t4) (a .n) (lent (a .instant .now) (a .enabled .now) (a .waiting .now) (a .events .now))
     _ (v .judge-first .ensures) _ (c .before .first .given .1)
 
 pub step-spec : {M : Type 1} → statement M

@@ -1,8 +1,7 @@
 -- `step::step_within` meets its contract: by the verdict of the tables and the requests.
 -- Assumes nothing.
 use Rattle.tables.specs.Asked.{flat}
-use Rattle.row_judge.specs.Judge.{rules}
-use Rattle.step.specs.Outcome.{lent}
+use Rattle.tables.specs.Lent.{rules, lent}
 use Rattle.step.specs.Laws.Whole.{inner-passed, inner-refused}
 use borrow.Author.Needs.{needs}
 use Rattle.step.proofs.step_within.Statement.{statement}
@@ -20,6 +19,9 @@ and-then-requires c κs = search needs
 enum-told : tie.Need-enum-told
 enum-told c = search needs
 
+slice-aggregate-act : tie.Need-slice-aggregate-act
+slice-aggregate-act c = search needs
+
 act-requires : tie.Need-act-requires
 act-requires c κs = search needs
 
@@ -35,20 +37,21 @@ same-length-2 c = search needs
 returns : tie.Need-returns
 returns c =
     let k = c .before .before .before .before in
-    let n = k .before .before .before .before .before in
+    let n = k .before .before .before .before .before .before in
     let w = n .before .before in
     let z = w .before .before .before .before .before .before .before .before .before in
     let a = z .args in
-    inner-passed (rules (a .roles) (a .periodic-count) (a .trigger-count) (a .periodics .now) (a .triggers .now)) (flat (a .asked .now) (a .m)) (lent (a .instant .now) (a .enabled .now) (a .waiting .now) (a .events .now))
+    let b = k .act .last .1 .1 .1 .1 .1 .1 in
+    inner-passed (rules (a .counts) (a .periodics .now) (a .triggers .now)) (flat (a .asked .now) (a .m)) (lent (a .instant .now) (a .enabled .now) (a .waiting .now) (a .events .now))
     (w .before .before .before .judge .result) _ _ (w .before .before .before .judge .ensures) (w .before .judge-requests .ensures) (w .and-then .ensures)
-    _ (n .enum-told .given .1) (z .pre .1) (k .act .ensures)
+    (lent (b .0) (b .1 .0) (b .1 .1 .0) (b .1 .1 .1 .0)) (n .enum-told .given .1) (z .pre .1) (k .act .ensures)
 
 returns-2 : tie.Need-returns-2
 returns-2 c =
     let w = c .before .before .before in
     let z = w .before .before .before .before .before .before .before .before .before in
     let a = z .args in
-    inner-refused (rules (a .roles) (a .periodic-count) (a .trigger-count) (a .periodics .now) (a .triggers .now)) (flat (a .asked .now) (a .m)) (lent (a .instant .now) (a .enabled .now) (a .waiting .now) (a .events .now))
+    inner-refused (rules (a .counts) (a .periodics .now) (a .triggers .now)) (flat (a .asked .now) (a .m)) (lent (a .instant .now) (a .enabled .now) (a .waiting .now) (a .events .now))
     (w .before .before .before .judge .result) _ _ (w .before .before .before .judge .ensures) (w .before .judge-requests .ensures) (w .and-then .ensures)
     _ (c .before .verdict .given .1)
 
@@ -60,6 +63,7 @@ step-within-spec =
     judge-requests-requires
     and-then-requires
     enum-told
+    slice-aggregate-act
     act-requires
     enum-known-verdict
     same-length

@@ -25,17 +25,17 @@ use Rattle.theory.specs.Laws.Run.{step-same}
 use Rattle.answers.specs.Laws.{verdict-cases}
 use Rattle.answers.specs.declared.Refusal.{Refusal}
 use Rattle.answers.specs.declared.Verdict.{Verdict}
-use Rattle.answers.specs.declared.Verdict.the-variants.{Pass, Refuse}
+use Rattle.answers.specs.declared.Verdict.the-variants.{Pass, Refused}
 use Rattle.tables.specs.Layout.{sheetOf, periodicAt}
 use Rattle.tables.specs.Buffers.{bit, rolesOf, eventsOf, waitingOf, Narrow}
 use Rattle.tables.specs.Asked.{Asked, asks}
+use Rattle.tables.specs.Lent.{Rules, sheetIn, Lent, stateIn}
+use Rattle.table_judge.specs.Laws.{judge-passes}
 use Rattle.masks.specs.Laws.Bits.{bit-high, bit-none}
 use Rattle.masks.specs.Laws.Held.{roles-one, events-one, waiting-one, buffer-of}
-use Rattle.row_judge.specs.Judge.{Rules, sheetIn}
-use Rattle.judge.specs.Laws.{judge-passes}
 use Rattle.requests.specs.Requests.{AllFit}
 use Rattle.requests.specs.Laws.{fit-says, asks-elim}
-use Rattle.step.specs.Outcome.{Lent, stateIn, judgeStep, Stepped, Outcome}
+use Rattle.step.specs.Outcome.{judgeStep, Stepped, Outcome}
 use Rattle.step.specs.Laws.Passes.{step-passes}
 
 -- ---- two steps on what was lent are one, where their requests ask for the same set
@@ -65,7 +65,7 @@ step-exact R q before v v′ a a′ x y =
           (λ (p : v ≡ Pass).
           let g = accepted R q before (sym (x .judged) ∙ p) in
           stepped-one R q q before a a′ (g .0) (g .1) refl (x .passed p) (y .passed (sym e ∙ p)))
-          (λ (r : (r : Refusal) × (v ≡ Refuse r)). x .refused (r .0) (r .1) ∙ sym (y .refused (r .0) (sym e ∙ r .1)))
+          (λ (r : (r : Refusal) × (v ≡ Refused r)). x .refused (r .0) (r .1) ∙ sym (y .refused (r .0) (sym e ∙ r .1)))
           (verdict-cases v),
     )
 
@@ -117,17 +117,17 @@ waits-in l narrow k e p h =
           not-both b (ap (λ (x : ℕ). bit x p) z ∙ bit-none p))),
     )
 
-givens-in : (R : Rules) → GoodOrder (sheetIn R) → (q : Asked) → AllFit (R .roleCount) q → (l : Lent) → Narrow 16 (l .waiting) → InBuffer (givens (sheetIn R) (asks q) (stateIn l))
+givens-in : (R : Rules) → GoodOrder (sheetIn R) → (q : Asked) → AllFit (R .counts .roles) q → (l : Lent) → Narrow 16 (l .waiting) → InBuffer (givens (sheetIn R) (asks q) (stateIn l))
 unfolding givens due sheetOf
 givens-in R good q fit l narrow e p h =
     let t : ℕ = l .instant in
-    let falls : ℕ → Bool = λ i. rowDue (periodicAt (R .periodics) i) t && is (periodicAt (R .periodics) i .event) (periodicAt (R .periodics) i .priority) e p in
+    let falls : ℕ → Bool = λ i. rowDue (periodicAt (R .tables .periodics) i) t && is (periodicAt (R .tables .periodics) i .event) (periodicAt (R .tables .periodics) i .priority) e p in
     let waits : Bool = waitingOf (l .waiting) (row t) e p in
     ⊎-elim
-    (λ (d : anyBelow (R .periodicCount) falls ≡ true).
-    let r = any-elim (R .periodicCount) falls d in
-    let w : Periodic = periodicAt (R .periodics) (r .0) in
-    let k = periodic-says (R .roleCount) w .0 (good .periodics (r .0) (r .1)) in
+    (λ (d : anyBelow (R .counts .periodics) falls ≡ true).
+    let r = any-elim (R .counts .periodics) falls d in
+    let w : Periodic = periodicAt (R .tables .periodics) (r .0) in
+    let k = periodic-says (R .counts .roles) w .0 (good .periodics (r .0) (r .1)) in
     let s = and-right (rowDue w t) (is (w .event) (w .priority) e p) (r .2) in
     let x : w .event ≡ e = eqb-true _ _ (and-left (eqb (w .event) e) (eqb (w .priority) p) s) in
     let y : w .priority ≡ p = eqb-true _ _ (and-right (eqb (w .event) e) (eqb (w .priority) p) s) in
@@ -137,15 +137,15 @@ givens-in R good q fit l narrow e p h =
     (λ (w : waits ≡ true). waits-in l narrow (row t) e p w)
     (λ (a : asks q 0 e p ≡ true).
     let r = asks-elim q 0 e p a in
-    let k = fit-says (R .roleCount) q fit (r .0) (r .1) in
+    let k = fit-says (R .counts .roles) q fit (r .0) (r .1) in
     let x : q .request (r .0) .event ≡ e = eqb-true _ _ (and-left (eqb (q .request (r .0) .event) e) (eqb (q .request (r .0) .priority) p) (r .3)) in
     let y : q .request (r .0) .priority ≡ p = eqb-true _ _ (and-right (eqb (q .request (r .0) .event) e) (eqb (q .request (r .0) .priority) p) (r .3)) in
     (omega (arith, k .event, good .few-roles), omega (arith, k .priority)))
     (or-cases waits (asks q 0 e p) o))
-    (or-cases (anyBelow (R .periodicCount) falls) (waits || asks q 0 e p) h)
+    (or-cases (anyBelow (R .counts .periodics) falls) (waits || asks q 0 e p) h)
 
 -- so of every instant, with any roles, any waiting buffer of 16 bits and any requests within their limits, exactly one buffer holds the solution
-pub one-buffer-served : (R : Rules) → GoodOrder (sheetIn R) → NoLoop (sheetIn R) → (q : Asked) → AllFit (R .roleCount) q → (l : Lent) → Narrow 16 (l .waiting)
+pub one-buffer-served : (R : Rules) → GoodOrder (sheetIn R) → NoLoop (sheetIn R) → (q : Asked) → AllFit (R .counts .roles) q → (l : Lent) → Narrow 16 (l .waiting)
     → ExactlyOne (λ (b : List ℕ). (length b ≡ EVENTS) × Narrow 16 b × Solves (sheetIn R) (rolesOf (l .roles)) (givens (sheetIn R) (asks q) (stateIn l)) (eventsOf b))
 one-buffer-served R good nl q fit l narrow =
     one-buffer (sheetIn R) good nl (rolesOf (l .roles)) (givens (sheetIn R) (asks q) (stateIn l)) (givens-in R good q fit l narrow)

@@ -15,19 +15,22 @@ use Rattle.theory.specs.Laws.Used.{loop-place-used, step-used}
 use Rattle.answers.specs.declared.Name.the-variants.{Loop}
 use Rattle.answers.specs.declared.Refusal.{Refusal}
 use Rattle.answers.specs.declared.Verdict.{Verdict}
-use Rattle.answers.specs.declared.Verdict.the-variants.{Pass, Refuse}
+use Rattle.answers.specs.declared.Verdict.the-variants.{Pass, Refused}
 use Rattle.answers.specs.Answers.{refuse}
+use Rattle.tables.specs.declared.Counts.{Counts}
 use Rattle.tables.specs.Layout.{sheetOf, triggerAt}
 use Rattle.tables.specs.Buffers.{eventsOf}
 use Rattle.tables.specs.Asked.{Asked, asks}
 use Rattle.tables.specs.Laws.Used.{periodics-turned, periodic-same, trigger-same, trigger-fits-same, triggers-turned}
-use Rattle.row_judge.specs.Judge.{Rules, sheetIn, judgeRows, judgeLoop, judgeTables}
+use Rattle.tables.specs.Lent.{Rules, sheetIn, Lent, stateIn}
+use Rattle.row_judge.specs.Judge.{judgeRows}
 use Rattle.row_judge.specs.Laws.{rows-same}
-use Rattle.judge.specs.Says.{Says}
-use Rattle.judge.specs.Laws.{rows-say}
-use Rattle.judge.specs.Laws.Answer.{tables-refused, tables-loop}
-use Rattle.order.specs.Order.{exactLengths}
-use Rattle.step.specs.Outcome.{Lent, stateIn, lengthsFit, judgeStep, Outcome}
+use Rattle.table_judge.specs.Judge.{judgeLoop, judgeTables}
+use Rattle.table_judge.specs.Says.{Says}
+use Rattle.table_judge.specs.Laws.{rows-say}
+use Rattle.table_judge.specs.Laws.Answer.{tables-refused, tables-loop}
+use Rattle.step_tests.specs.Order.{exactLengths}
+use Rattle.step.specs.Outcome.{lengthsFit, judgeStep, Outcome}
 use Rattle.step.specs.Used.{SameRules}
 use Rattle.step.specs.Laws.Exact.{accepted, step-exact}
 
@@ -35,9 +38,7 @@ use Rattle.step.specs.Laws.Exact.{accepted, step-exact}
 pub rules-itself : (R : Rules) → SameRules R R
 rules-itself R =
     record {
-      role-count = refl;
-      periodic-count = refl;
-      trigger-count = refl;
+      counts = refl;
       periodics = record { size = refl; bytes = λ k l. refl };
       triggers = record { size = refl; bytes = λ i k l b u. refl };
     }
@@ -46,11 +47,9 @@ rules-itself R =
 pub rules-turned : (R R′ : Rules) → SameRules R R′ → SameRules R′ R
 rules-turned R R′ s =
     record {
-      role-count = sym (s .role-count);
-      periodic-count = sym (s .periodic-count);
-      trigger-count = sym (s .trigger-count);
-      periodics = periodics-turned (R′ .periodicCount) (R .periodics) (R′ .periodics) (rw (s .periodic-count) at (s .periodics));
-      triggers = triggers-turned (R′ .triggerCount) (R .triggers) (R′ .triggers) (rw (s .trigger-count) at (s .triggers));
+      counts = sym (s .counts);
+      periodics = periodics-turned (R′ .counts .periodics) (R .tables .periodics) (R′ .tables .periodics) (rw (s .counts) at (s .periodics));
+      triggers = triggers-turned (R′ .counts .triggers) (R .tables .triggers) (R′ .tables .triggers) (rw (s .counts) at (s .triggers));
     }
 
 module _ (R R′ : Rules) (s : SameRules R R′) where
@@ -59,6 +58,15 @@ module _ (R R′ : Rules) (s : SameRules R R′) where
 
   abbrev sh′ : Sheet
   sh′ = sheetIn R′
+
+  role-count : R .counts .roles ≡ R′ .counts .roles
+  role-count = ap (λ (n : Counts). n .roles) (s .counts)
+
+  periodic-count : R .counts .periodics ≡ R′ .counts .periodics
+  periodic-count = ap (λ (n : Counts). n .periodics) (s .counts)
+
+  trigger-count : R .counts .triggers ≡ R′ .counts .triggers
+  trigger-count = ap (λ (n : Counts). n .triggers) (s .counts)
 
   -- ---- the verdict
 
@@ -69,24 +77,24 @@ module _ (R R′ : Rules) (s : SameRules R R′) where
   rows-used : judgeRows sh ≡ judgeRows sh′
   unfolding sheetOf
   rows-used =
-      rows-same sh sh′ (s .role-count) (s .periodic-count) (s .trigger-count)
-      (λ i l. ap₂ periodicFits (s .role-count) (periodic-same (R .periodicCount) (R .periodics) (R′ .periodics) (s .periodics) i l))
+      rows-same sh sh′ role-count periodic-count trigger-count
+      (λ i l. ap₂ periodicFits role-count (periodic-same (R .counts .periodics) (R .tables .periodics) (R′ .tables .periodics) (s .periodics) i l))
       (λ i l.
-      trigger-fits-same (R .triggerCount) (R .triggers) (R′ .triggers) (s .triggers) i l (R .roleCount)
-      ∙ ap (λ (n : ℕ). triggerFits n (triggerAt (R′ .triggers) i)) (s .role-count))
+      trigger-fits-same (R .counts .triggers) (R .tables .triggers) (R′ .tables .triggers) (s .triggers) i l (R .counts .roles)
+      ∙ ap (λ (n : ℕ). triggerFits n (triggerAt (R′ .tables .triggers) i)) role-count)
 
   -- rows in good order are the same in all that is used
   sheets-used : GoodOrder sh → SameUsed sh sh′
   unfolding sheetOf
   sheets-used good =
       record {
-        role-count = s .role-count;
-        periodic-count = s .periodic-count;
-        trigger-count = s .trigger-count;
-        periodics = periodic-same (R .periodicCount) (R .periodics) (R′ .periodics) (s .periodics);
+        role-count = role-count;
+        periodic-count = periodic-count;
+        trigger-count = trigger-count;
+        periodics = periodic-same (R .counts .periodics) (R .tables .periodics) (R′ .tables .periodics) (s .periodics);
         triggers = λ i l.
             let w = good-trigger sh good i l in
-            trigger-same (R .triggerCount) (R .triggers) (R′ .triggers) (s .triggers) i l (w .few-events) (w .few-conditions);
+            trigger-same (R .counts .triggers) (R .tables .triggers) (R′ .tables .triggers) (s .triggers) i l (w .few-events) (w .few-conditions);
       }
 
   loops-used : GoodOrder sh → judgeLoop sh ≡ judgeLoop sh′
@@ -99,12 +107,12 @@ module _ (R R′ : Rules) (s : SameRules R R′) where
   tables-used =
       ⊎-elim
       (λ (x : (judgeRows sh ≡ Pass) × GoodOrder sh). tables-loop sh (x .0) ∙ (loops-used (x .1) ∙ sym (tables-loop sh′ (sym rows-used ∙ x .0))))
-      (λ (y : (r : Refusal) × (judgeRows sh ≡ Refuse r) × Says sh (Refuse r)). tables-refused sh (y .0) (y .1) ∙ sym (tables-refused sh′ (y .0) (sym rows-used ∙ y .1)))
+      (λ (y : (r : Refusal) × (judgeRows sh ≡ Refused r) × Says sh (Refused r)). tables-refused sh (y .0) (y .1) ∙ sym (tables-refused sh′ (y .0) (sym rows-used ∙ y .1)))
       (rows-say sh)
 
   judged-used : (q : Asked) (l : Lent) → judgeStep R q l ≡ judgeStep R′ q l
   unfolding judgeStep
-  judged-used q l = rw (lengths-used l, tables-used, s .role-count)
+  judged-used q l = rw (lengths-used l, tables-used, role-count)
 
   -- ---- the outcome
 

@@ -7,29 +7,28 @@ use Rattle.theory.specs.Numbers.{LAST-INSTANT, REQUESTS}
 use Rattle.answers.specs.Laws.{no-pass}
 use Rattle.answers.specs.declared.Refusal.{Refusal}
 use Rattle.answers.specs.declared.Verdict.{Verdict}
-use Rattle.answers.specs.declared.Verdict.the-variants.{Pass, Refuse}
-use Rattle.tables.specs.Asked.{Asked, flat}
-use Rattle.judge.specs.declared.Judged.{Judged}
+use Rattle.answers.specs.declared.Verdict.the-variants.{Pass, Refused}
 use Rattle.answers.specs.Answers.{andThen}
-use Rattle.row_judge.specs.Judge.{Rules, sheetIn, judgeTables}
-use Rattle.judge.specs.Judged.{judged}
-use Rattle.minute.specs.Minute.{Acted}
-use Rattle.order.specs.Order.{judgeFirst}
+use Rattle.tables.specs.Asked.{Asked, flat}
+use Rattle.tables.specs.Lent.{Rules, sheetIn, Lent}
+use Rattle.table_judge.specs.declared.Judged.{Judged}
+use Rattle.table_judge.specs.Judge.{judgeTables}
+use Rattle.table_judge.specs.Judged.{judged}
 use Rattle.requests.specs.Requests.{judgeRequests}
-use Rattle.step.specs.Outcome.{Lent, lengthsFit, judgeStep, Outcome}
+use Rattle.instant.specs.Acted.{Acted}
+use Rattle.step_tests.specs.Order.{judgeFirst}
+use Rattle.step.specs.Outcome.{lengthsFit, judgeStep, Outcome}
 use Rattle.step.specs.Parts.{Sized, Inner}
 use Rattle.step.specs.Laws.Acted.{acted}
 use Rattle.step.specs.Laws.Passes.{first-says, step-parts, lengths-say, verdict-is, sound}
 
 -- ---- by the tables and the requests
 
-module _ (R : Rules) (q : Asked) (before : Lent) (j : Judged) (v w : Verdict) (e : j ≡ judged (sheetIn R)) (f : w ≡ judgeRequests (R .roleCount) q) (h : v ≡ andThen (j .verdict) w) where
-  inner-verdict : v ≡ andThen (judgeTables (sheetIn R)) (judgeRequests (R .roleCount) q)
+module _ (R : Rules) (q : Asked) (before : Lent) (j : Judged) (v w : Verdict) (e : j ≡ judged (sheetIn R)) (f : w ≡ judgeRequests (R .counts .roles) q) (h : v ≡ andThen (j .verdict) w) where
+  inner-verdict : v ≡ andThen (judgeTables (sheetIn R)) (judgeRequests (R .counts .roles) q)
   inner-verdict = h ∙ ap₂ andThen (verdict-is R j e) f
 
-  pub inner-passed : (after : Lent) → v ≡ Pass → Sized (before .waiting) (before .events)
-      → Acted (R .periodicCount) (R .triggerCount) (R .periodics) (R .triggers) q (j .levels) (before .instant) (before .roles) (before .waiting) (before .events) (after .instant) (after .roles) (after .waiting) (after .events)
-      → Inner R q before Pass after
+  pub inner-passed : (after : Lent) → v ≡ Pass → Sized (before .waiting) (before .events) → Acted R q (j .levels) before after → Inner R q before Pass after
   inner-passed after p size x =
       record {
         judged = sym p ∙ inner-verdict;
@@ -37,7 +36,7 @@ module _ (R : Rules) (q : Asked) (before : Lent) (j : Judged) (v w : Verdict) (e
         passed = λ _. acted R (j .levels) q before after size x (sound R q j v e (h ∙ ap (andThen (j .verdict)) f) p);
       }
 
-  pub inner-refused : (r : Refusal) → v ≡ Refuse r → Inner R q before (Refuse r) before
+  pub inner-refused : (r : Refusal) → v ≡ Refused r → Inner R q before (Refused r) before
   inner-refused r p = record { judged = sym p ∙ inner-verdict; refused = λ _ _. refl; passed = λ z. no-pass r z }
 
 -- ---- by LENGTH, LAST and TOO MANY of requests
@@ -55,7 +54,7 @@ module _ (R : Rules) (asked : List ℕ) (n : ℕ) (before : Lent) (v : Verdict) 
 
   -- the tests that are left
   abbrev tests : Verdict
-  tests = andThen (judgeTables (sheetIn R)) (judgeRequests (R .roleCount) (flat asked n))
+  tests = andThen (judgeTables (sheetIn R)) (judgeRequests (R .counts .roles) (flat asked n))
 
   outer-verdict : (w : Verdict) → v ≡ w → andThen w tests ≡ judgeStep R (flat asked n) before
   outer-verdict w p = sym (step-parts R (flat asked n) before ∙ ap (λ (x : Verdict). andThen x tests) (sym h ∙ p))
@@ -64,6 +63,6 @@ module _ (R : Rules) (asked : List ℕ) (n : ℕ) (before : Lent) (v : Verdict) 
   unfolding andThen
   outer-passed u after p x = record { judged = x .judged ∙ outer-verdict Pass p; refused = x .refused; passed = x .passed }
 
-  pub outer-refused : (r : Refusal) → v ≡ Refuse r → Outcome R (flat asked n) before (Refuse r) before
+  pub outer-refused : (r : Refusal) → v ≡ Refused r → Outcome R (flat asked n) before (Refused r) before
   unfolding andThen
-  outer-refused r p = record { judged = outer-verdict (Refuse r) p; refused = λ _ _. refl; passed = λ z. no-pass r z }
+  outer-refused r p = record { judged = outer-verdict (Refused r) p; refused = λ _ _. refl; passed = λ z. no-pass r z }

@@ -1,13 +1,13 @@
 -- `tape::read_tape` meets its contract. The loop's invariant: what the lines from `at` on make of what was read so far is what all of them make of nothing.
 -- A line is at least one byte, so there are no more lines than bytes. The measure is what is left of the tape.
 -- Assumes nothing.
-use mathlib.Core.Path.{_≡_, sym, _∙_}
+use mathlib.Core.Path.{_≡_, sym, ap, _∙_}
 use Prim.Native.Nat.{_+_, _-_, _≤_, _<_}
 use lib.ListN.{length, drop}
 use Rattle.text.specs.Lines.{lines}
 use Rattle.text.specs.Laws.Lines.{end-le}
-use Rattle.walks.specs.Walks.{goes, walks}
-use Rattle.walks.specs.Laws.{walks-endless, walks-none, turn-goes, turn-stops}
+use Rattle.line_readers.specs.Walks.{goes, refused, walks}
+use Rattle.line_readers.specs.Laws.Walks.{walks-endless, walks-none, turn-goes, turn-stops}
 use Rattle.tape.specs.Tape.{tapeReader, tapeRead}
 use Rattle.tape.specs.Laws.Line.{went, stopped, line-next}
 use native.Mathlib.Omega.{arith}
@@ -27,13 +27,18 @@ loop-holds c = search needs
 line-end-requires : tie.Need-line-end-requires Inv-loop μ-loop
 line-end-requires c κs = search needs
 
-add-t13 : tie.Need-add-t13 Inv-loop μ-loop
-add-t13 c = search needs
+add-refusal-of : tie.Need-add-refusal-of Inv-loop μ-loop
+add-refusal-of c = search needs
+
+refusal-of-requires : tie.Need-refusal-of-requires Inv-loop μ-loop
+refusal-of-requires c κs = search needs
 
 returns : tie.Need-returns Inv-loop μ-loop
-returns c = let d = c .before .before in
+returns c = let i = c .before .before in
+    let d = i .before in
     let l = d .before .before in
-    sym (sym (l .loop .inv .1) ∙ walks-endless (tapeReader _) _ _ _ (d .line-end .ensures) _ (d .before .loop-test .taken) (c .before .if1 .taken))
+    ap refused (c .refusal-of .ensures)
+    ∙ sym (sym (l .loop .inv .1) ∙ walks-endless (tapeReader _) _ _ _ (d .line-end .ensures) _ (d .before .loop-test .taken) (i .if1 .taken))
 
 sub-take : tie.Need-sub-take Inv-loop μ-loop
 sub-take c = search needs
@@ -102,7 +107,8 @@ read-tape-spec =
     μ-loop
     loop-holds
     line-end-requires
-    add-t13
+    add-refusal-of
+    refusal-of-requires
     returns
     sub-take
     part-take-start

@@ -1,7 +1,7 @@
 -- `tape::take` meets its contract: the verdict decides, and what passed had room.
 -- Assumes nothing.
 use mathlib.Core.Path.{sym, ap, _∙_}
-use Rattle.walks.specs.Walks.{goes, byVerdict}
+use Rattle.line_readers.specs.Walks.{goes, byVerdict}
 use Rattle.tape.specs.Tape.{tapeStep}
 use Rattle.tape.specs.Laws.Line.{passes}
 use borrow.Author.Needs.{needs}

@@ -5,16 +5,16 @@ use mathlib.Core.List.{List}
 use Prim.Native.Nat.{ℕ}
 use native.Mathlib.Omega.{arith}
 use Rattle.theory.specs.Laws.Exact.{exact}
-use Rattle.tape.specs.declared.Tape.{Tape}
-use Rattle.tape.specs.declared.Tape.the-variants.{Goes, Refused}
+use Rattle.tape.specs.declared.Taken.{Taken}
+use Rattle.tape.specs.declared.Taken.the-variants.{Goes, Refused}
 use Rattle.tape.specs.Tape.{tapeRead}
 use Rattle.tape.specs.Took.{took}
 
-took-one : (r r′ : Tape) → took r ≡ took r′ → r ≡ r′
+took-one : (r r′ : Taken) → took r ≡ took r′ → r ≡ r′
 took-one (Goes s) (Goes s′) e = cc
 took-one (Goes s) (Refused r) e = absurd (let z : _≡_ {A = ℕ} 0 1 = cc in omega arith)
 took-one (Refused r) (Goes s) e = absurd (let z : _≡_ {A = ℕ} 0 1 = cc in omega arith)
 took-one (Refused r) (Refused r′) e = cc
 
-pub read-tape-exact : (tape : List ℕ) (roles before : ℕ) (r r′ : Tape) → took r ≡ tapeRead roles before tape → took r′ ≡ tapeRead roles before tape → r ≡ r′
+pub read-tape-exact : (tape : List ℕ) (roles before : ℕ) (r r′ : Taken) → took r ≡ tapeRead roles before tape → took r′ ≡ tapeRead roles before tape → r ≡ r′
 read-tape-exact tape roles before r r′ h h′ = took-one r r′ (exact h h′)

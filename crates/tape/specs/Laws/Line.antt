@@ -12,26 +12,26 @@ use Rattle.theory.specs.Laws.Tests.{test}
 use Rattle.answers.specs.declared.Name.the-variants.{Request}
 use Rattle.answers.specs.declared.Refusal.{Refusal}
 use Rattle.answers.specs.declared.Verdict.the-variants.{Pass}
-use Rattle.line_order.specs.Laws.{each-passes}
+use Rattle.line_readers.specs.Laws.Order.{each-passes}
 use Rattle.text.specs.Framed.{framed}
 use Rattle.frames.specs.Frame.{bytesOf}
-use Rattle.walks.specs.Walks.{Going, goes, refused}
-use Rattle.walks.specs.Laws.{verdict-goes}
+use Rattle.line_readers.specs.Walks.{Going, goes, refused}
+use Rattle.line_readers.specs.Laws.Walks.{verdict-goes}
 use Rattle.kinds.specs.Kinds.{kind}
 use Rattle.tape_frames.specs.Frame.{ASK, instantOf}
 use Rattle.tape_tests.specs.declared.Heard.{Heard}
-use Rattle.tape_tests.specs.Tape.{ofTape, roomForRequest, inTime, askFits, tapeTests, judgeTape}
-use Rattle.tape.specs.declared.Tape.{Tape}
-use Rattle.tape.specs.declared.Tape.the-variants.{Goes, Refused}
+use Rattle.tape_tests.specs.Tests.{ofTape, roomForRequest, inTime, askFits, tapeTests, judgeTape}
+use Rattle.tape.specs.declared.Taken.{Taken}
+use Rattle.tape.specs.declared.Taken.the-variants.{Goes, Refused}
 use Rattle.tape.specs.Tape.{heardAfter, tapeStep}
 use Rattle.tape.specs.Took.{took}
 
 -- ---- what comes back
 
-pub went : (w : Tape) (x : Going Heard) (s : Heard) → took w ≡ x → w ≡ Goes s → goes s ≡ x
+pub went : (w : Taken) (x : Going Heard) (s : Heard) → took w ≡ x → w ≡ Goes s → goes s ≡ x
 went w x s e h = sym (ap took h) ∙ e
 
-pub stopped : (w : Tape) (x : Going Heard) (r : Refusal) → took w ≡ x → w ≡ Refused r → refused r ≡ x
+pub stopped : (w : Taken) (x : Going Heard) (r : Refusal) → took w ≡ x → w ≡ Refused r → refused r ≡ x
 stopped w x r e h = sym (ap took h) ∙ e
 
 -- ---- one line
@@ -51,9 +51,9 @@ passes place roles s l e =
     record { is-framed = a .framed; of-tape = a .kind; room = a .room; in-time = a .field; fit = a .last }
 
 -- room for a request more of the same instant
-pub room-says : (s : Heard) (f : List ℕ) → roomForRequest s f ≡ true → kind f ≡ ASK → instantOf f ≡ s .instant → s .row < REQUESTS
+pub room-says : (s : Heard) (f : List ℕ) → roomForRequest s f ≡ true → kind f ≡ ASK → instantOf f ≡ s .instant → s .many < REQUESTS
 unfolding roomForRequest
-room-says s f h k e = ltb-true (s .row) REQUESTS (rw (eq-eqb (kind f) ASK k, eq-eqb (instantOf f) (s .instant) e) at h)
+room-says s f h k e = ltb-true (s .many) REQUESTS (rw (eq-eqb (kind f) ASK k, eq-eqb (instantOf f) (s .instant) e) at h)
 
 -- one line more
 after-line : (s : Heard) (f : List ℕ) → heardAfter s f .line ≡ s .line + 1

@@ -4,7 +4,7 @@ use mathlib.Core.Path.{sym, ap, _∙_}
 use borrow.Author.Tests.{eq-eqb, ne-eqb}
 use Rattle.tables.specs.Asked as lent
 use Rattle.requests.specs.Requests.{fits}
-use Rattle.tape_tests.specs.Tape.{askFits}
+use Rattle.tape_tests.specs.Tests.{askFits}
 use borrow.Author.Needs.{needs}
 use Rattle.tape_tests.proofs.ask_fits.Statement.{statement}
 use Rattle.tape_tests.proofs.ask_fits.Tie as tie

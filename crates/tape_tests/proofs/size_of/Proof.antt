@@ -1,7 +1,7 @@
 -- `tape_tests::size_of` meets its contract: the tests of the code are those of the definition, in the same order.
 -- Assumes nothing.
 use borrow.Author.Tests.{eq-eqb, ne-eqb}
-use Rattle.tape_tests.specs.Tape.{tapeSize}
+use Rattle.tape_tests.specs.Tests.{tapeSize}
 use Rattle.tape_tests.proofs.size_of.Statement.{statement}
 use Rattle.tape_tests.proofs.size_of.Tie as tie
 

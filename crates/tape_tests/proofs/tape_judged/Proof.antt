@@ -2,8 +2,8 @@
 -- Assumes nothing.
 use mathlib.Core.Path.{_∙_}
 use Rattle.answers.specs.declared.Name.the-variants.{Request}
-use Rattle.line_order.specs.Order.{inOrder}
-use Rattle.tape_tests.specs.Tape.{tapeTests, judgeTape}
+use Rattle.line_readers.specs.Order.{inOrder}
+use Rattle.tape_tests.specs.Tests.{tapeTests, judgeTape}
 use borrow.Author.Needs.{needs}
 use Rattle.tape_tests.proofs.tape_judged.Statement.{statement}
 use Rattle.tape_tests.proofs.tape_judged.Tie as tie

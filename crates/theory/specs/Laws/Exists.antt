@@ -15,7 +15,7 @@ use Rattle.theory.specs.Instant.{met, Closed, IsLeast}
 use Rattle.theory.specs.Laws.Tests.{and-left, and-right, and-both, or-left, or-right, or-cases, or-none-left, or-none-right}
 use Rattle.theory.specs.Laws.Below.{any-intro, any-elim, all-or, count-le, count-strict}
 use Rattle.theory.specs.Laws.Instant.{met-mono}
-use Rattle.theory.specs.Stage.{Stratified, AgreeBelow}
+use Rattle.theory.specs.Solving.{Stratified, AgreeBelow}
 use Rattle.theory.specs.Laws.Unique.{caused-agree}
 
 abbrev pub none : Events

@@ -1,10 +1,9 @@
 -- Laws of the first of the numbers below n that passes: when it is which, and what it says. A search from 0 on has `firstBelow i f ≡ i` for its invariant.
 -- Assumes nothing.
-use mathlib.Core.Path.{_≡_, refl, sym, ap, _∙_}
-use mathlib.Core.Logic.{_⊎_, inl, inr, ⊎-elim, by-cases}
+use mathlib.Core.Path.{_≡_, refl, sym}
+use mathlib.Core.Logic.{_⊎_, inl, inr, ⊎-elim}
 use mathlib.Core.Bool.{Bool, true, false}
 use Prim.Native.Nat.{ℕ, zero, suc, _+_, _-_, _≤_, _<_}
-use native.Mathlib.Decide.{decLt}
 use native.Mathlib.Numerals.{add-one}
 use native.Mathlib.Omega.{arith}
 use borrow.Author.Tests.{lt-ltb, le-ltb}
@@ -66,7 +65,7 @@ first-says n f =
     (λ (r : (k : ℕ) × FirstAt n f k). inr (rw (first-is n f (r .0) (r .1 .below) (r .1 .passes) (r .1 .first)) (r .1)))
     (first-or n f)
 
-first-below : (n : ℕ) (f : ℕ → Bool) → firstBelow n f < n → FirstAt n f (firstBelow n f)
+pub first-below : (n : ℕ) (f : ℕ → Bool) → firstBelow n f < n → FirstAt n f (firstBelow n f)
 first-below n f l =
     ⊎-elim
     (λ (h : (firstBelow n f ≡ n) × NoneBelow n f). absurd (omega (arith, h .0)))
@@ -103,34 +102,6 @@ module _ (i : ℕ) (f : ℕ → Bool) (e : firstBelow i f ≡ i) where
 
 pub search-end : (n i : ℕ) (f : ℕ → Bool) → i ≤ n → n ≤ i → firstBelow i f ≡ i → n ≡ firstBelow n f
 search-end n i f l k e = let q : i ≡ n = omega arith in sym (rw q at e)
-
--- ---- two searches one after the other: f is g below a, and h from a on
-
-module _ (a b : ℕ) (f g h : ℕ → Bool) (low : (k : ℕ) → k < a → f k ≡ g k) (high : (k : ℕ) → f (a + k) ≡ h k) where
-  pub first-low : firstBelow a g < a → firstBelow (a + b) f ≡ firstBelow a g
-  first-low l =
-      let k : ℕ = firstBelow a g in
-      let r : FirstAt a g k = first-below a g l in
-      first-is (a + b) f k (omega arith) (low k l ∙ r .passes) (λ j m. low j (omega arith) ∙ r .first j m)
-
-  from-a : (j : ℕ) → a ≤ j → f j ≡ h (j - a)
-  from-a j m = let e : j ≡ a + (j - a) = omega arith in ap f e ∙ high (j - a)
-
-  -- none passes below a, nor in h below k
-  none-to : NoneBelow a g → (k : ℕ) → NoneBelow k h → NoneBelow (a + k) f
-  none-to x k y j m =
-      by-cases (decLt j a)
-      (λ (l : j < a). low j l ∙ x j l)
-      (λ (o : ¬ (j < a)). from-a j (omega arith) ∙ y (j - a) (omega arith))
-
-  pub first-high : a ≤ firstBelow a g → firstBelow (a + b) f ≡ a + firstBelow b h
-  first-high l =
-      let x : NoneBelow a g = first-past a g l in
-      let k : ℕ = firstBelow b h in
-      ⊎-elim
-      (λ (y : (k ≡ b) × NoneBelow b h). first-none (a + b) f (none-to x b (y .1)) ∙ ap (λ (m : ℕ). a + m) (sym (y .0)))
-      (λ (r : FirstAt b h k). first-is (a + b) f (a + k) (omega (arith, r .below)) (high k ∙ r .passes) (none-to x k (r .first)))
-      (first-says b h)
 
 -- tests that are the same below n have the same first
 pub first-same : (n : ℕ) (f g : ℕ → Bool) → ((k : ℕ) → k < n → f k ≡ g k) → firstBelow n f ≡ firstBelow n g

@@ -15,7 +15,7 @@ use Rattle.theory.specs.Graph.{counts, node, plus, minus, edge, Reaches,
 use Rattle.theory.specs.LoopTest.{reach, levelOf}
 use Rattle.theory.specs.Laws.Tests.{and-left, or-cases, test, is-false}
 use Rattle.theory.specs.Laws.Below.{count-le, count-mono, count-strict}
-use Rattle.theory.specs.Stage.{Stratified}
+use Rattle.theory.specs.Solving.{Stratified}
 use Rattle.theory.specs.Laws.Reach.{reaches-append, reaches-edge, through-sound, through-complete, through-self}
 use Rattle.theory.specs.Laws.Graph.{HeadsBelow, counts-says, head-node, drawn-intro, drawn-elim, plus-edge, minus-edge, edge-to}
 

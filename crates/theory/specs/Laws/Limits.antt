@@ -1,6 +1,6 @@
 -- What the tests of a row's and a request's limits say, as statements about numbers.
 -- Assumes nothing.
-use mathlib.Core.Path.{_≡_}
+use mathlib.Core.Path.{_≡_, refl, sym, _∙_}
 use mathlib.Core.Logic.{_⊎_, inl, inr, ⊎-elim, _↔_}
 use mathlib.Core.Bool.{Bool, true, _&&_}
 use Prim.Native.Nat.{ℕ, _*_, _≤_, _<_}
@@ -12,6 +12,7 @@ use Rattle.theory.specs.Sheet.{Periodic, Trigger, ofRoles, isPriority, e
 use Rattle.theory.specs.Instant.{requestFits}
 use Rattle.theory.specs.Laws.Tests.{and-left, and-right, and-both, or-left, or-right, or-cases}
 use Rattle.theory.specs.Laws.Below.{all-intro, all-elim}
+use Rattle.theory.specs.Laws.All.{all-cons, all-tests}
 
 -- Begin is at most 16,777,215. End is at least begin and at most 16,777,215, or FFFFFFFF. Period 1 to 10,080, first below period, run 1 to period.
 pub record PeriodicWithin (roleCount : ℕ) (w : Periodic) : Type 0 where
@@ -88,12 +89,24 @@ periodic-says n w = (
       (and-both (lt-ltb _ _ (x .event)) (lt-ltb _ _ (x .priority)))))))),
 )
 
-pub trigger-says : (n : ℕ) (g : Trigger) → (triggerFits n g ≡ true) ↔ TriggerWithin n g
+-- the tests of the events taken together, and those of the conditions
+pub trigger-tests : (n : ℕ) (g : Trigger) → triggerFits n g
+    ≡ ((leb 1 (g .eventCount) && leb (g .eventCount) BODY-EVENTS)
+    && (leb (g .conditionCount) BODY-CONDITIONS
+    && (allBelow (g .eventCount) (λ j. ofRoles n (g .event j))
+    && (allBelow (g .conditionCount) (λ j. ofRoles n (g .condition j))
+    && (ofRoles n (g .head)
+    && (isPriority (g .priority)
+    && leb (g .delay) LONGEST-DELAY))))))
 unfolding triggerFits
+trigger-tests n g = rw (all-cons, all-cons, all-tests, all-tests) refl
+
+pub trigger-says : (n : ℕ) (g : Trigger) → (triggerFits n g ≡ true) ↔ TriggerWithin n g
 trigger-says n g =
     let events : ℕ → Bool = λ j. ofRoles n (g .event j) in
     let conditions : ℕ → Bool = λ j. ofRoles n (g .condition j) in (
-      (λ h.
+      (λ fits.
+          let h = sym (trigger-tests n g) ∙ fits in
           let c = and-left (leb 1 (g .eventCount) && leb (g .eventCount) BODY-EVENTS) _ h in
           let h₁ = and-right (leb 1 (g .eventCount) && leb (g .eventCount) BODY-EVENTS) _ h in
           let h₂ = and-right (leb (g .conditionCount) BODY-CONDITIONS) _ h₁ in
@@ -111,7 +124,8 @@ trigger-says n g =
             delay = leb-true _ _ (and-right (isPriority (g .priority)) _ h₅);
           }),
       (λ x.
-          and-both (and-both (le-leb _ _ (x .some-event)) (le-leb _ _ (x .few-events)))
+          trigger-tests n g
+          ∙ and-both (and-both (le-leb _ _ (x .some-event)) (le-leb _ _ (x .few-events)))
           (and-both (le-leb _ _ (x .few-conditions))
           (and-both (all-intro (g .eventCount) events (λ j l. lt-ltb _ _ (x .events j l)))
           (and-both (all-intro (g .conditionCount) conditions (λ j l. lt-ltb _ _ (x .conditions j l)))

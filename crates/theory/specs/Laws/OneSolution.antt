@@ -16,7 +16,7 @@ use Rattle.theory.specs.LoopTest.{levelOf}
 use Rattle.theory.specs.Laws.Tests.{and-left, and-right, and-both}
 use Rattle.theory.specs.Laws.Limits.{TriggerWithin, trigger-says}
 use Rattle.theory.specs.Laws.Instant.{met-mono}
-use Rattle.theory.specs.Stage.{Stratified}
+use Rattle.theory.specs.Solving.{Stratified}
 use Rattle.theory.specs.Laws.Unique.{unique}
 use Rattle.theory.specs.Laws.Exists.{solving, solved}
 use Rattle.theory.specs.Laws.Graph.{HeadsBelow}

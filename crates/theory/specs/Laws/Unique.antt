@@ -11,7 +11,7 @@ use borrow.Author.Tests.{leb-true, le-leb}
 use Rattle.theory.specs.Events.{Events, conf}
 use Rattle.theory.specs.Sheet.{Sheet}
 use Rattle.theory.specs.Instant.{Closed, IsLeast}
-use Rattle.theory.specs.Stage.{Stratified, AgreeBelow}
+use Rattle.theory.specs.Solving.{Stratified, AgreeBelow}
 use Rattle.theory.specs.Laws.Tests.{and-left, and-right, and-both, or-left, or-right, test, fails-not, bool-ext}
 use Rattle.theory.specs.Laws.Instant.{met-map, met-mono}
 

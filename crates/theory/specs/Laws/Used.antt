@@ -17,6 +17,7 @@ use Rattle.theory.specs.Box.{State, row, givens, rowAfter, Step}
 use Rattle.theory.specs.LoopTest.{through, PAIRS, loopPlace, levelOf}
 use Rattle.theory.specs.Used.{SameTrigger, SameUsed}
 use Rattle.theory.specs.Laws.Below.{any-same, all-same}
+use Rattle.theory.specs.Laws.Limits.{trigger-tests}
 
 -- the same count, and the same tests below it
 any-used : (n m : ℕ) (f g : ℕ → Bool) → n ≡ m → ((i : ℕ) → i < n → f i ≡ g i) → anyBelow n f ≡ anyBelow m g
@@ -69,13 +70,12 @@ module _ (g h : Trigger) (s : SameTrigger g h) where
 
   -- it holds what it may
   pub fits-used : (n : ℕ) → triggerFits n g ≡ triggerFits n h
-  unfolding triggerFits
   fits-used n =
       let events : allBelow (g .eventCount) (λ j. ofRoles n (g .event j)) ≡ allBelow (h .eventCount) (λ j. ofRoles n (h .event j))
       = all-used (g .eventCount) (h .eventCount) _ _ (s .event-count) (λ j l. ap (ofRoles n) (s .events j (omega arith))) in
       let conditions : allBelow (g .conditionCount) (λ j. ofRoles n (g .condition j)) ≡ allBelow (h .conditionCount) (λ j. ofRoles n (h .condition j))
       = all-used (g .conditionCount) (h .conditionCount) _ _ (s .condition-count) (λ j l. ap (ofRoles n) (s .conditions j (omega arith))) in
-      cc (events, conditions, s .event-count, s .condition-count, s .head, s .priority, s .delay)
+      trigger-tests n g ∙ cc (events, conditions, s .event-count, s .condition-count, s .head, s .priority, s .delay) ∙ sym (trigger-tests n h)
 
   -- some body event has `from E` = a
   leaves-used : (from : ℕ → ℕ) (a : ℕ) → anyBelow (g .eventCount) (λ j. eqb (from (g .event j)) a) ≡ anyBelow (h .eventCount) (λ j. eqb (from (h .event j)) a)

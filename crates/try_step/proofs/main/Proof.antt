@@ -16,6 +16,9 @@ loop-holds c = search needs
 one-case-requires : tie.Need-one-case-requires Inv-loop μ-loop
 one-case-requires c κs = search needs
 
+goes-on-requires : tie.Need-goes-on-requires Inv-loop μ-loop
+goes-on-requires c κs = search needs
+
 returns : tie.Need-returns Inv-loop μ-loop
 returns c = search needs
 
@@ -39,6 +42,7 @@ main-spec =
     μ-loop
     loop-holds
     one-case-requires
+    goes-on-requires
     returns
     sub-left
     loop-less

@@ -15,14 +15,17 @@ abbrev μ-loop : tie.MeasureT-loop
 loop-holds : tie.Need-loop-holds Inv-loop μ-loop
 loop-holds c = search needs
 
-number-requires : tie.Need-number-requires Inv-loop μ-loop
-number-requires c κs = search needs
+mul-one : tie.Need-mul-one Inv-loop μ-loop
+mul-one c = search needs
+
+shared-slice-read-one : tie.Need-shared-slice-read-one Inv-loop μ-loop
+shared-slice-read-one c = search needs
 
 one-requires : tie.Need-one-requires Inv-loop μ-loop
 one-requires c κs = search needs
 
-index-requires : tie.Need-index-requires Inv-loop μ-loop
-index-requires c κs = search needs
+cast-n : tie.Need-cast-n Inv-loop μ-loop
+cast-n c = search needs
 
 add-n : tie.Need-add-n Inv-loop μ-loop
 add-n c = search needs
@@ -46,9 +49,10 @@ nonzero-spec =
     Inv-loop
     μ-loop
     loop-holds
-    number-requires
+    mul-one
+    shared-slice-read-one
     one-requires
-    index-requires
+    cast-n
     add-n
     add-i
     loop-less

@@ -4,7 +4,7 @@ use mathlib.Core.Path.{sym, _∙_}
 use lib.Dec.{ltb}
 use borrow.Author.Tests.{le-ltb}
 use Rattle.theory.specs.Laws.Tests.{and-left, and-right, not-both}
-use Rattle.theory.specs.Laws.Stage.{turn-idle}
+use Rattle.theory.specs.Laws.Solving.{turn-idle}
 use Rattle.turns.specs.Laws.{put-there, put-joined}
 use borrow.Author.Needs.{needs}
 use Rattle.turns.proofs.put.Statement.{statement}

@@ -1,11 +1,11 @@
--- `turns::settle` meets its contract. The loop's invariant: the walks so far keep the solver's invariant. It ends, since a walk that is not the last has added a member.
+-- `turns::settle` meets its contract. The loop's invariant: the sweeps so far keep the solver's invariant. It ends, since a sweep that is not the last has added a member.
 -- Assumes nothing.
 use mathlib.Core.Path.{_≡_, refl, _∙_}
 use Prim.Native.Nat.{ℕ, _-_}
 use lib.ListN.{length}
 use borrow.Author.Tests.{not-true, not-false}
-use Rattle.theory.specs.Stage.{MEMBERS, sizeOf, Keeps}
-use Rattle.theory.specs.Laws.Stage.{size-most}
+use Rattle.theory.specs.Solving.{MEMBERS, sizeOf, Keeps}
+use Rattle.theory.specs.Laws.Solving.{size-most}
 use Rattle.tables.specs.Layout.{triggersOf}
 use Rattle.tables.specs.Buffers.{eventsOf}
 use Rattle.keys.specs.Keys.{Chained}
@@ -24,8 +24,8 @@ abbrev μ-loop : tie.MeasureT-loop
 loop-holds : tie.Need-loop-holds Inv-loop μ-loop
 loop-holds c = (refl, λ key h on G level st ks d. d)
 
-walk-requires : tie.Need-walk-requires Inv-loop μ-loop
-walk-requires c κs =
+sweep-requires : tie.Need-sweep-requires Inv-loop μ-loop
+sweep-requires c κs =
     let d = c .before in
     let p = d .before .before .before .before .pre in
     (d .loop .inv .0 ∙ p .0, p .1, p .2)
@@ -38,22 +38,22 @@ returns c =
     let w = c .before .before .before in
     let i = w .before .before .loop .inv in
     λ key h.
-    let e = w .walk .ensures key h in
+    let e = w .sweep .ensures key h in
     (λ on G level st ks d. e .keeps on G level st ks (i .1 key h on G level st ks d), e .settled (not-true _ (c .if1 .taken)))
 
 loop-less : tie.Need-loop-less Inv-loop μ-loop
 loop-less c =
     let w = c .before .before .before in
     let p = w .before .before .before .before .before .before .pre in
-    omega (arith, w .walk .ensures (p .2 .0) (p .2 .1) .more (not-false _ (c .if1 .left)), size-most (eventsOf (w .walk .last .0)))
+    omega (arith, w .sweep .ensures (p .2 .0) (p .2 .1) .more (not-false _ (c .if1 .left)), size-most (eventsOf (w .sweep .last .0)))
 
 loop-again : tie.Need-loop-again Inv-loop μ-loop
 loop-again c =
     let w = c .before .before .before in
     let i = w .before .before .loop .inv in
-    (w .walk .kept .0 ∙ i .0, λ key h on G level st ks d. w .walk .ensures key h .keeps on G level st ks (i .1 key h on G level st ks d))
+    (w .sweep .kept .0 ∙ i .0, λ key h on G level st ks d. w .sweep .ensures key h .keeps on G level st ks (i .1 key h on G level st ks d))
 
 pub settle-spec : {M : Type 1} → statement M
 settle-spec =
     tie.close
-    (tie.spec Inv-loop μ-loop loop-holds walk-requires same-length returns loop-less loop-again)
+    (tie.spec Inv-loop μ-loop loop-holds sweep-requires same-length returns loop-less loop-again)

@@ -2,7 +2,7 @@
 -- Assumes nothing.
 use mathlib.Core.Path.{sym, _∙_}
 use borrow.Author.Tests.{not-true, not-false}
-use Rattle.theory.specs.Laws.Stage.{turn-unmet, turn-met}
+use Rattle.theory.specs.Laws.Solving.{turn-unmet, turn-met}
 use Rattle.tables.specs.Laws.{head-byte, priority-byte}
 use borrow.Author.Needs.{needs}
 use Rattle.turns.proofs.turn.Statement.{statement}

@@ -1,3 +1,0 @@
--- A whole day, from an input's bytes to what is printed.
-pub mod Day
-pub mod Laws

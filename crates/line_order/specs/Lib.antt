@@ -1,3 +1,0 @@
--- The tests of a line, in their order.
-pub mod Order
-pub mod Laws

@@ -1,0 +1,3 @@
+-- What is proved of them.
+pub mod Walks
+pub mod Order

@@ -1,4 +1,0 @@
--- What is proved of the lines.
-pub mod Took
-pub mod Lines
-pub mod Exact

@@ -1,3 +1,0 @@
--- The instant's own work: the givens, the solution, what waits, the roles after.
-pub mod Minute
-pub mod Laws

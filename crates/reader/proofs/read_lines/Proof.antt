@@ -1,0 +1,159 @@
+-- `reader::read_lines` meets its contract. The loop's invariant: what the lines from `at` on make of what was read so far is what all of them make of nothing.
+-- A line is at least one byte, so there are no more lines than bytes. The measure is what is left of the sheet.
+-- Assumes nothing.
+use mathlib.Core.Path.{_≡_, sym, ap, _∙_}
+use Prim.Native.Nat.{_-_, _≤_, _<_}
+use lib.ListN.{length, drop}
+use Rattle.text.specs.Lines.{lines}
+use Rattle.text.specs.Laws.Lines.{end-le}
+use Rattle.sheet_acts.specs.Acts.{progress}
+use Rattle.line_readers.specs.Walks.{goes, refused}
+use Rattle.reader.specs.Lines.{sheetReader, reads, fresh}
+use Rattle.line_readers.specs.Laws.Walks.{walks-endless, walks-none, turn-goes, turn-stops}
+use Rattle.reader.specs.Laws.Lines.{line-next}
+use Rattle.reader.specs.Laws.Took.{went, stopped}
+use borrow.Author.Needs.{needs}
+use native.Mathlib.Omega.{arith}
+use Rattle.reader.proofs.read_lines.Statement.{statement}
+use Rattle.reader.proofs.read_lines.Tie as tie
+
+abbrev Inv-loop : tie.InvT-loop
+Inv-loop sheet per₀ trg₀ s₀ at₀ per trg s at =
+    ((at ≤ length sheet) × (s .line ≤ at))
+    × (((length per ≡ length per₀) × (length trg ≡ length trg₀))
+    × (reads (goes (progress s per trg)) (lines (drop at sheet)) ≡ reads (goes (progress fresh per₀ trg₀)) (lines sheet)))
+
+abbrev μ-loop : tie.MeasureT-loop
+μ-loop sheet per₀ trg₀ s₀ at₀ per trg s at = length sheet - at
+
+loop-holds : tie.Need-loop-holds Inv-loop μ-loop
+loop-holds c = search needs
+
+line-end-requires : tie.Need-line-end-requires Inv-loop μ-loop
+line-end-requires c κs = search needs
+
+add-refusal-of : tie.Need-add-refusal-of Inv-loop μ-loop
+add-refusal-of c = search needs
+
+refusal-of-requires : tie.Need-refusal-of-requires Inv-loop μ-loop
+refusal-of-requires c κs = search needs
+
+same-length : tie.Need-same-length Inv-loop μ-loop
+same-length c = search needs
+
+same-length-2 : tie.Need-same-length-2 Inv-loop μ-loop
+same-length-2 c = search needs
+
+returns : tie.Need-returns Inv-loop μ-loop
+returns c =
+    let t = c .before .before in
+    let d = t .before in
+    let l = d .before .before in
+    ap refused (c .refusal-of .ensures)
+    ∙ (sym (walks-endless sheetReader _ _ _ (d .line-end .ensures) _ (d .before .loop-test .taken) (t .if1 .taken)) ∙ l .loop .inv .1 .1)
+
+sub-take : tie.Need-sub-take Inv-loop μ-loop
+sub-take c = search needs
+
+part-take-start : tie.Need-part-take-start Inv-loop μ-loop
+part-take-start c = search needs
+
+part-take-end : tie.Need-part-take-end Inv-loop μ-loop
+part-take-end c =
+    let d = c .before in
+    let l = d .before .before in
+    let g = end-le (l .before .before .before .before .args .sheet .now) (l .loop .at) (d .line-end .result) (d .line-end .ensures) (l .loop .inv .0 .0) in
+    search needs
+
+take-requires : tie.Need-take-requires Inv-loop μ-loop
+take-requires c κs = search needs
+
+enum-known-w : tie.Need-enum-known-w Inv-loop μ-loop
+enum-known-w c = search needs
+
+add-at : tie.Need-add-at Inv-loop μ-loop
+add-at c =
+    let d = c .before .before .before .before .before .before .before .before .before .before .before .before in
+    let l = d .before .before in
+    let g = end-le (l .before .before .before .before .args .sheet .now) (l .loop .at) (d .line-end .result) (d .line-end .ensures) (l .loop .inv .0 .0) in
+    search needs
+
+loop-less : tie.Need-loop-less Inv-loop μ-loop
+loop-less c = search needs
+
+loop-again : tie.Need-loop-again Inv-loop μ-loop
+loop-again c =
+    let k = c .before .before .before .before .before .before .before in
+    let j = k .before .before .before .before in
+    let d = j .before in
+    let l = d .before .before in
+    let h = end-le (l .before .before .before .before .args .sheet .now) (l .loop .at) (d .line-end .result) (d .line-end .ensures) (l .loop .inv .0 .0) in
+    let i : d .line-end .result < length (l .before .before .before .before .args .sheet .now) = omega (arith, j .if1 .left) in
+    let w = sym (went _ _ _ _ _ (k .take .ensures) (c .before .w .given .1)) in
+    let n = line-next _ _ _ w in
+    let g = turn-goes sheetReader _ _ _ (d .line-end .ensures) _ i _ (l .loop .inv .1 .1) _ w in
+    ((search needs, omega (arith, n, d .line-end .ensures, l .loop .inv .0 .1)), ((search needs, search needs), g))
+
+enum-known-w-2 : tie.Need-enum-known-w-2 Inv-loop μ-loop
+enum-known-w-2 c = search needs
+
+same-length-3 : tie.Need-same-length-3 Inv-loop μ-loop
+same-length-3 c = search needs
+
+same-length-4 : tie.Need-same-length-4 Inv-loop μ-loop
+same-length-4 c = search needs
+
+returns-2 : tie.Need-returns-2 Inv-loop μ-loop
+returns-2 c =
+    let k = c .before .before .before .before .before .before .before in
+    let j = k .before .before .before .before in
+    let d = j .before in
+    let l = d .before .before in
+    let h = end-le (l .before .before .before .before .args .sheet .now) (l .loop .at) (d .line-end .result) (d .line-end .ensures) (l .loop .inv .0 .0) in
+    let i : d .line-end .result < length (l .before .before .before .before .args .sheet .now) = omega (arith, j .if1 .left) in
+    turn-stops sheetReader _ _ _ (d .line-end .ensures) _ i _ (l .loop .inv .1 .1) _ (sym (stopped _ _ _ _ _ (k .take .ensures) (c .before .w2 .given .1)))
+
+at-end-requires : tie.Need-at-end-requires Inv-loop μ-loop
+at-end-requires c κs = search needs
+
+same-length-5 : tie.Need-same-length-5 Inv-loop μ-loop
+same-length-5 c = search needs
+
+same-length-6 : tie.Need-same-length-6 Inv-loop μ-loop
+same-length-6 c = search needs
+
+returns-3 : tie.Need-returns-3 Inv-loop μ-loop
+returns-3 c =
+    let l = c .before .before in
+    c .at-end .ensures _ _
+    ∙ (sym (walks-none sheetReader (l .before .before .before .before .args .sheet .now) (l .loop .at) (progress (l .loop .s) (l .loop .periodics) (l .loop .triggers)) (search needs)) ∙ l .loop .inv .1 .1)
+
+pub read-lines-spec : {M : Type 1} → statement M
+read-lines-spec =
+    tie.close
+    (tie.spec
+    Inv-loop
+    μ-loop
+    loop-holds
+    line-end-requires
+    add-refusal-of
+    refusal-of-requires
+    same-length
+    same-length-2
+    returns
+    sub-take
+    part-take-start
+    part-take-end
+    take-requires
+    enum-known-w
+    add-at
+    loop-less
+    loop-again
+    enum-known-w-2
+    same-length-3
+    same-length-4
+    returns-2
+    at-end-requires
+    same-length-5
+    same-length-6
+    returns-3)

@@ -1,0 +1,6 @@
+-- What is proved of reading.
+pub mod Took
+pub mod Lines
+pub mod Out
+pub mod Lengths
+pub mod Exact

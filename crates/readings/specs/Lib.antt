@@ -1,2 +1,0 @@
--- What the reader answers.
-pub mod Readings

@@ -1,3 +1,0 @@
--- What is proved of reading.
-pub mod Lengths
-pub mod Exact
