@@ -219,7 +219,7 @@ static void start_book(struct dice *dice, struct book *book)
 }
 
 /* So many good periodic rows, mostly for instants below 100. */
-static void add_periodic_rows(struct dice *dice, struct book *book, uint32_t count)
+void add_periodic_rows(struct dice *dice, struct book *book, uint32_t count)
 {
     uint32_t i;
 
@@ -279,4 +279,14 @@ void dense_book(struct dice *dice, struct book *book)
     }
     say_counts(book);
     good_tape(dice, book, below(dice, 40));
+}
+
+/* A book for damage: mostly a good one, at times one with loops. */
+void book_for_damage(struct dice *dice, struct book *book)
+{
+    if (chance(dice, 80)) {
+        good_book(dice, book);
+    } else {
+        shaped_book(dice, book, TANGLE);
+    }
 }

@@ -8,12 +8,7 @@
 /* How many lines a text has, one without 0A at the end counted too. */
 uint32_t line_count(const struct text *text)
 {
-    struct cursor cursor = cursor_at(text->bytes, text->length, 0);
-    struct line line;
-
-    while (next_line(&cursor, &line)) {
-    }
-    return cursor.line;
+    return count_lines(text->bytes, text->length);
 }
 
 /* Where a line, from 0, starts; past the last it is the end of the text. */
@@ -52,7 +47,6 @@ void mend_checks(struct text *text)
     static struct text mended;
     struct cursor cursor = cursor_at(text->bytes, text->length, 1);
     struct line line;
-    size_t i;
 
     text_clear(&mended);
     while (next_line(&cursor, &line)) {
@@ -60,9 +54,7 @@ void mend_checks(struct text *text)
             text_frame(&mended, frame.bytes, frame.length - 1);
             continue;
         }
-        for (i = 0; i < line.length; i++) {
-            text_byte(&mended, line.bytes[i]);
-        }
+        text_bytes(&mended, line.bytes, line.length);
         if (line.ended) {
             text_byte(&mended, 0x0A);
         }
@@ -159,7 +151,7 @@ static unsigned edge_byte(struct dice *dice)
  * Changes, drops, doubles or puts in one byte of two digits, the line staying hexadecimal; or
  * damages a line.
  */
-void damage_bytes(struct dice *dice, struct text *text)
+static void damage_bytes(struct dice *dice, struct text *text)
 {
     uint32_t way = below(dice, 12), line = below(dice, line_count(text));
     size_t start = line_start(text, line), length = line_start(text, line + 1) - start;
@@ -180,6 +172,16 @@ void damage_bytes(struct dice *dice, struct text *text)
     } else {
         replace(text, at, 0, pair, 2);
     }
+}
+
+/* So many changes of bytes or lines, the checks put right after them. */
+void damage_mended(struct dice *dice, struct text *text, uint32_t times)
+{
+    while (times > 0) {
+        damage_bytes(dice, text);
+        times--;
+    }
+    mend_checks(text);
 }
 
 /* One to four changes of any sort. */

@@ -3,20 +3,6 @@
 
 #include <string.h>
 
-/* The fields that an edge can set. */
-enum spot {
-    VERSION, ROLES, BEGIN, END, PERIOD, FIRST, RUN, ROW_EVENT, ROW_PRIORITY,
-    BODY_COUNT, CONDITION_COUNT, BODY, CONDITION, HEAD, HEAD_PRIORITY, DELAY,
-    PERIODIC_ROWS, TRIGGER_ROWS, END_PERIODIC, END_TRIGGER
-};
-
-/* An edge: a field and its value, counted from the field's own base when "from" is 1. */
-struct edge {
-    enum spot spot;
-    int from;
-    uint32_t value;
-};
-
 static const struct edge edges[] = {
     {VERSION, 0, 1}, {VERSION, 0, 0}, {VERSION, 0, 2}, {VERSION, 0, 255},
     {ROLES, 0, 0}, {ROLES, 0, 1}, {ROLES, 0, 63}, {ROLES, 0, 64}, {ROLES, 0, 65}, {ROLES, 0, 255},
@@ -168,6 +154,12 @@ static void set_periodic(struct periodic *row, const struct edge *edge, uint32_t
     }
 }
 
+/* How many places a count takes; one over the limit takes all. */
+static uint32_t places(uint8_t count)
+{
+    return count > BODY_MOST ? BODY_MOST : count;
+}
+
 /* Sets a field of a trigger; a place that is set is a used one. */
 static void set_trigger(struct dice *dice, struct trigger *row, const struct edge *edge,
                         uint32_t role_count)
@@ -182,11 +174,11 @@ static void set_trigger(struct dice *dice, struct trigger *row, const struct edg
         row->condition_count = value;
         break;
     case BODY:
-        row->events[below(dice, row->event_count)] = value;
+        row->events[below(dice, places(row->event_count))] = value;
         break;
     case CONDITION:
         row->condition_count = row->condition_count == 0 ? 1 : row->condition_count;
-        row->conditions[below(dice, row->condition_count)] = value;
+        row->conditions[below(dice, places(row->condition_count))] = value;
         break;
     case HEAD:
         row->head = value;
@@ -200,32 +192,61 @@ static void set_trigger(struct dice *dice, struct trigger *row, const struct edg
     }
 }
 
-/* Brings one field of a good book to an edge, in any row. */
-void row_edge(struct dice *dice, struct book *book, uint32_t which)
+/* The number of a row among so many. */
+static uint32_t row_at(struct dice *dice, enum where where, uint32_t count)
 {
-    const struct edge *edge = &edges[which % row_edges()];
+    if (where == FIRST_ROW) {
+        return 0;
+    }
+    if (where == MIDDLE_ROW) {
+        return count / 2;
+    }
+    return where == LAST_ROW ? count - 1 : below(dice, count);
+}
+
+/* Whether an edge is one of a periodic row. */
+int of_periodic(const struct edge *edge)
+{
+    return edge->spot >= BEGIN && edge->spot < BODY_COUNT;
+}
+
+/* Whether an edge is one of a trigger. */
+static int of_trigger(const struct edge *edge)
+{
+    return edge->spot >= BODY_COUNT && edge->spot < PERIODIC_ROWS;
+}
+
+/* Brings one field of a good book to an edge, in the row that is asked for. */
+void set_edge(struct dice *dice, struct book *book, const struct edge *edge, enum where where)
+{
     uint32_t row;
 
-    if (edge->spot < BEGIN || edge->spot >= PERIODIC_ROWS) {
-        set_book(dice, book, edge);
-    } else if (edge->spot < BODY_COUNT) {
+    if (of_periodic(edge)) {
         if (book->periodic_count == 0) {
             good_periodic(dice, &book->periodic[0], book->role_count, 10);
             book->periodic_count = 1;
         }
-        row = below(dice, book->periodic_count);
+        row = row_at(dice, where, book->periodic_count);
         set_periodic(&book->periodic[row], edge, book->role_count);
         say_counts(book);
-    } else {
+    } else if (of_trigger(edge)) {
         if (book->trigger_count == 0) {
             good_trigger(dice, &book->trigger[0], book->role_count);
             book->trigger_count = 1;
             make_loop_free(dice, book->trigger, 1);
         }
-        row = below(dice, book->trigger_count);
+        row = row_at(dice, where, book->trigger_count);
         set_trigger(dice, &book->trigger[row], edge, book->role_count);
         say_counts(book);
+    } else {
+        set_book(dice, book, edge);
     }
+}
+
+/* Brings one field of a good book to an edge, in any row. */
+void row_edge(struct dice *dice, struct book *book, uint32_t which)
+{
+    set_edge(dice, book, &edges[which % row_edges()], ANY_ROW);
 }
 
 /* Lines to be put into a sheet; those with a dot at the end get their check put on. */

@@ -1,26 +1,13 @@
-/* The bench examples of document 01, its warnings, and the paper's examples. */
-#include "form.h"
+/* The bench examples of document 01, its warnings, the paper's examples, and what all share. */
+#include "examples.h"
 
 #include <stdio.h>
 #include <string.h>
 
-/* A sheet that was read, a state, an events buffer and requests: a bench to step on. */
-struct bench {
-    struct periodic periodic[PERIODIC_MOST];
-    struct trigger trigger[TRIGGERS_MOST];
-    uint16_t waiting[WAITING_LENGTH];
-    struct set events;
-    struct request list[64];
-    struct tables tables;
-    struct state state;
-    struct requests requests;
-    struct answer read;
-};
-
 static unsigned passed = 0, failed = 0;
 
 /* Prints one line for an example and counts it. */
-static void check(const char *name, int right)
+void check(const char *name, int right)
 {
     printf("%s %s\n", right ? "pass" : "FAIL", name);
     if (right) {
@@ -34,7 +21,7 @@ static void check(const char *name, int right)
  * Puts frames, given in hexadecimal without their checks and parted by blanks, as lines with
  * checks.
  */
-static void put_frames(struct text *out, const char *frames)
+void put_frames(struct text *out, const char *frames)
 {
     uint8_t bytes[600];
     size_t length = 0, digits = 0;
@@ -64,13 +51,13 @@ static void put_frames(struct text *out, const char *frames)
 }
 
 /* Whether an answer is the one expected. */
-static int is(struct answer found, unsigned number, uint32_t place)
+int is(struct answer found, unsigned number, uint32_t place)
 {
     return found.number == number && found.place == place;
 }
 
 /* Reads the bytes of a sheet into a fresh bench. */
-static void bench_bytes(struct bench *bench, const uint8_t *bytes, size_t length)
+void bench_bytes(struct bench *bench, const uint8_t *bytes, size_t length)
 {
     static struct sheet sheet;
     struct lent lent;
@@ -82,20 +69,14 @@ static void bench_bytes(struct bench *bench, const uint8_t *bytes, size_t length
     lent.trigger = bench->trigger;
     lent.trigger_length = TRIGGERS_MOST;
     bench->read = read_sheet(bytes, length, &lent, &sheet);
-    bench->tables.periodic = bench->periodic;
-    bench->tables.periodic_length = PERIODIC_MOST;
-    bench->tables.trigger = bench->trigger;
-    bench->tables.trigger_length = TRIGGERS_MOST;
-    bench->tables.role_count = sheet.role_count;
-    bench->tables.periodic_count = sheet.periodic_count;
-    bench->tables.trigger_count = sheet.trigger_count;
+    bench->tables = tables_of(&sheet, &lent);
     bench->state.waiting = bench->waiting;
     bench->state.waiting_length = WAITING_LENGTH;
     bench->requests.list = bench->list;
 }
 
 /* Reads a sheet, given as frames, into a fresh bench. */
-static void bench_frames(struct bench *bench, const char *frames)
+void bench_frames(struct bench *bench, const char *frames)
 {
     static struct text text;
 
@@ -173,17 +154,17 @@ static int waits(const struct bench *bench, uint32_t u, unsigned priority, unsig
     return ((bench->waiting[(u % WAITING_ROWS) * EVENTS + event] >> priority) & 1) == 1;
 }
 
-/* Runs the day program on an input and compares all of its output. */
-static int day_gives(const char *input, const char *output)
+/* Runs a program on an input and compares all of its output. */
+int gives(program *run, const char *input, const char *output)
 {
     static struct text out;
 
-    day((const uint8_t *)input, strlen(input), &out);
+    run((const uint8_t *)input, strlen(input), &out);
     return out.length == strlen(output) && memcmp(out.bytes, output, out.length) == 0;
 }
 
-/* Runs the day program on frames and expects one refusal. */
-static int day_refuses(const char *frames, unsigned number, uint32_t place)
+/* Runs a program on frames and expects one refusal. */
+int refuses(program *run, const char *frames, unsigned number, uint32_t place)
 {
     static struct text in, out;
     char wanted[20];
@@ -195,7 +176,7 @@ static int day_refuses(const char *frames, unsigned number, uint32_t place)
     sprintf(wanted, "E0%02X%08lX%02X\n", number, (unsigned long)place, (256 - sum % 256) % 256);
     text_clear(&in);
     put_frames(&in, frames);
-    day(in.bytes, in.length, &out);
+    run(in.bytes, in.length, &out);
     return out.length == strlen(wanted) && memcmp(out.bytes, wanted, out.length) == 0;
 }
 
@@ -320,7 +301,7 @@ static void example_7(void)
 }
 
 /* The input of the day program that document 01 works out. */
-static const char worked_input[] =
+const char worked_input[] =
     "100103EC\n2000000000FFFFFFFF0018000100010104C5\n30010001040600C4\n3001010402030502BE\n"
     "F00100020D\n4000000001050600B4\nF1000000040B\n";
 
@@ -393,12 +374,12 @@ static void example_11(void)
 static void worked(void)
 {
     check("the day program's input gives its output byte for byte",
-          day_gives(worked_input,
-                    "5000000000000000000000000000B0\n"
-                    "5000000001000000000000000102AC\n"
-                    "5000000002000000000000000100AD\n"
-                    "5000000003000000000000000301A9\n"
-                    "5000000004000000000000000300A9\n"));
+          gives(day, worked_input,
+                "5000000000000000000000000000B0\n"
+                "5000000001000000000000000102AC\n"
+                "5000000002000000000000000100AD\n"
+                "5000000003000000000000000301A9\n"
+                "5000000004000000000000000300A9\n"));
 }
 
 /* Wrong way: reading conditions after the minute's own events. */
@@ -656,7 +637,7 @@ static void table_of_days(void)
     unsigned i;
 
     for (i = 0; i < sizeof days / sizeof days[0]; i++) {
-        check(days[i].name, day_refuses(days[i].frames, days[i].number, days[i].place));
+        check(days[i].name, refuses(day, days[i].frames, days[i].number, days[i].place));
     }
 }
 
@@ -754,6 +735,7 @@ int command_examples(void)
     tape_of_many();
     roles_above();
     step_order();
+    writer_examples();
     printf("%u passed, %u failed\n", passed, failed);
     return failed == 0 ? 0 : 1;
 }

@@ -4,9 +4,6 @@
 #include <stdio.h>
 #include <string.h>
 
-/* Puts an input for one seed at the end of a page. */
-typedef void maker(struct dice *dice, uint64_t seed, struct text *out);
-
 /* A kind: its name, the command that takes it, what it is, and how it is made. */
 struct kind {
     const char *name;
@@ -147,21 +144,11 @@ static void day_odd(struct dice *dice, uint64_t seed, struct text *out)
     odd_input(dice, out, &book, (uint32_t)(seed % odd_inputs()));
 }
 
-/* A book for damage: mostly a good one, at times one with loops. */
-static void book_for_damage(struct dice *dice)
-{
-    if (chance(dice, 80)) {
-        good_book(dice, &book);
-    } else {
-        shaped_book(dice, &book, TANGLE);
-    }
-}
-
 /* Some characters or lines damaged. */
 static void day_damage(struct dice *dice, uint64_t seed, struct text *out)
 {
     (void)seed;
-    book_for_damage(dice);
+    book_for_damage(dice, &book);
     put_sheet(out, &book);
     put_tape(out, &book);
     damage(dice, out);
@@ -173,14 +160,10 @@ static void day_mend(struct dice *dice, uint64_t seed, struct text *out)
     uint32_t times = chance(dice, 60) ? 1 : between(dice, 1, 4);
 
     (void)seed;
-    book_for_damage(dice);
+    book_for_damage(dice, &book);
     put_sheet(out, &book);
     put_tape(out, &book);
-    while (times > 0) {
-        damage_bytes(dice, out);
-        times--;
-    }
-    mend_checks(out);
+    damage_mended(dice, out, times);
 }
 
 /* Puts a good input of exactly so many bytes, for sizes from about 65,500. */
@@ -427,7 +410,7 @@ static void read_damage(struct dice *dice, uint64_t seed, struct text *out)
 {
     (void)seed;
     text_clear(&page);
-    book_for_damage(dice);
+    book_for_damage(dice, &book);
     put_sheet(&page, &book);
     damage(dice, &page);
     wrap_read(dice, out, &page);
@@ -440,13 +423,9 @@ static void read_mend(struct dice *dice, uint64_t seed, struct text *out)
 
     (void)seed;
     text_clear(&page);
-    book_for_damage(dice);
+    book_for_damage(dice, &book);
     put_sheet(&page, &book);
-    while (times > 0) {
-        damage_bytes(dice, &page);
-        times--;
-    }
-    mend_checks(&page);
+    damage_mended(dice, &page, times);
     wrap_read(dice, out, &page);
 }
 
@@ -639,7 +618,31 @@ static const struct kind kinds[] = {
     {"step-spoil", "step", "one thing spoiled, every refusal", step_spoil},
     {"step-spoils", "step", "several things spoiled at once", step_spoils_many},
     {"step-lists", "step", "0 to 1,024 requests, wrong ones in any place, repeats", step_lists},
-    {"step-order", "step", "the same requests in two orders, seeds 2k - 1 and 2k", step_order}
+    {"step-order", "step", "the same requests in two orders, seeds 2k - 1 and 2k", step_order},
+    {"write-good", "write", "good tables of every shape, junk in what is unused", write_good},
+    {"write-dense", "write", "near every limit", write_dense},
+    {"write-rows", "write", "from no rows to the longest sheet, all counts of a body", write_rows},
+    {"write-field", "write", "a field at its least or greatest value, accepted", write_field},
+    {"write-wrong", "write", "one field outside its limits, in each row and place", write_wrong},
+    {"write-unused", "write", "wrong only where it is unused, accepted", write_unused},
+    {"write-length", "write", "tables and buffers of other lengths", write_length},
+    {"write-count", "write", "counts over their limits or over the rows given", write_count},
+    {"write-loop", "write", "cycles of 1 to 128 events and their neighbours", write_loop},
+    {"write-tangle", "write", "random triggers, with loops or without", write_tangle},
+    {"write-spoils", "write", "several things spoiled at once", write_spoils},
+    {"sheet-good", "sheet", "accepted, rows mixed; nothing, a tape or bytes after it", sheet_good},
+    {"sheet-order", "sheet", "accepted, periodic rows before the triggers", sheet_order},
+    {"sheet-dense", "sheet", "accepted, near every limit, rows mixed", sheet_dense},
+    {"sheet-rest", "sheet", "accepted; anything after it, up to 65,536 bytes and over", sheet_rest},
+    {"sheet-damage", "sheet", "characters and lines of the sheet damaged", sheet_damage},
+    {"sheet-mend", "sheet", "bytes and lines of the sheet damaged, checks put right", sheet_mend},
+    {"sheet-loop", "sheet", "cycles of 1 to 128 events and their neighbours", sheet_loop},
+    {"sheet-tangle", "sheet", "random triggers, with loops or without", day_tangle},
+    {"sheet-edge", "sheet", "a field at the edge of its limit", day_edge},
+    {"sheet-lines", "sheet", "odd, missing and doubled lines of the sheet", day_lines},
+    {"sheet-odd", "sheet", "empty, endless, not split, doubled, far down", day_odd},
+    {"sheet-size", "sheet", "inputs near 65,536 bytes, sheets near 16,384", day_size},
+    {"sheet-junk", "sheet", "anything", junk}
 };
 
 enum { KINDS = sizeof kinds / sizeof kinds[0] };
@@ -655,7 +658,13 @@ int command_kinds(void)
     return 0;
 }
 
-/* The command gen: one input, or for read and step the cases of so many consecutive seeds. */
+/* Whether the command of a kind takes one input a run, and not many cases. */
+static int takes_one(const struct kind *kind)
+{
+    return strcmp(kind->command, "day") == 0 || strcmp(kind->command, "sheet") == 0;
+}
+
+/* The command gen: one input, or where many cases are taken those of so many consecutive seeds. */
 int command_gen(uint64_t seed, const char *name, uint64_t cases)
 {
     static struct text out;
@@ -669,8 +678,8 @@ int command_gen(uint64_t seed, const char *name, uint64_t cases)
         fprintf(stderr, "second: no such kind: %s\n", name);
         return 2;
     }
-    if (cases != 1 && strcmp(kinds[i].command, "day") == 0) {
-        fprintf(stderr, "second: a day takes one input a run\n");
+    if (cases != 1 && takes_one(&kinds[i])) {
+        fprintf(stderr, "second: a %s takes one input a run\n", kinds[i].command);
         return 2;
     }
     for (n = 0; n < cases; n++) {

@@ -30,6 +30,26 @@ struct book {
 /* The shapes that a trigger table can be given. */
 enum shape { MIXED, ORDERED, CHAIN, RING, LADDER, TANGLE };
 
+/* The fields that an edge can set. */
+enum spot {
+    VERSION, ROLES, BEGIN, END, PERIOD, FIRST, RUN, ROW_EVENT, ROW_PRIORITY,
+    BODY_COUNT, CONDITION_COUNT, BODY, CONDITION, HEAD, HEAD_PRIORITY, DELAY,
+    PERIODIC_ROWS, TRIGGER_ROWS, END_PERIODIC, END_TRIGGER
+};
+
+/* An edge: a field and its value, counted from the field's own base when "from" is 1. */
+struct edge {
+    enum spot spot;
+    int from;
+    uint32_t value;
+};
+
+/* The row in which an edge is set. */
+enum where { FIRST_ROW, MIDDLE_ROW, LAST_ROW, ANY_ROW };
+
+/* Puts an input for one seed at the end of a page. */
+typedef void maker(struct dice *dice, uint64_t seed, struct text *out);
+
 /* dice.c */
 struct dice dice_of(uint64_t seed, const char *kind);
 uint32_t dice_number(struct dice *dice);
@@ -45,7 +65,9 @@ struct request good_request(struct dice *dice, uint32_t role_count);
 void make_loop_free(struct dice *dice, struct trigger *trigger, uint32_t count);
 void say_counts(struct book *book);
 void good_tape(struct dice *dice, struct book *book, uint32_t span);
+void add_periodic_rows(struct dice *dice, struct book *book, uint32_t count);
 void good_book(struct dice *dice, struct book *book);
+void book_for_damage(struct dice *dice, struct book *book);
 void dense_book(struct dice *dice, struct book *book);
 void shaped_book(struct dice *dice, struct book *book, enum shape shape);
 
@@ -55,10 +77,9 @@ void loop_book(struct dice *dice, struct book *book, uint32_t length, uint32_t n
 
 /* pages.c: a book as text */
 void put_header(struct text *out, const struct book *book);
-void put_periodic(struct text *out, const struct periodic *row);
-void put_trigger(struct text *out, const struct trigger *row);
 void put_end(struct text *out, const struct book *book);
 void put_sheet(struct text *out, const struct book *book);
+void put_mixed(struct dice *dice, struct text *out, const struct book *book, uint32_t percent);
 void put_request(struct text *out, uint32_t instant, const struct request *request);
 void put_last(struct text *out, uint32_t last);
 void put_tape(struct text *out, const struct book *book);
@@ -69,12 +90,14 @@ size_t line_start(const struct text *text, uint32_t line);
 void replace(struct text *text, size_t at, size_t drop, const uint8_t *bytes, size_t length);
 void mend_checks(struct text *text);
 void damage(struct dice *dice, struct text *text);
-void damage_bytes(struct dice *dice, struct text *text);
+void damage_mended(struct dice *dice, struct text *text, uint32_t times);
 
 /* edges.c: the edges of each limit */
 uint32_t row_edges(void);
 uint32_t text_edges(void);
 uint32_t tape_edges(void);
+int of_periodic(const struct edge *edge);
+void set_edge(struct dice *dice, struct book *book, const struct edge *edge, enum where where);
 void row_edge(struct dice *dice, struct book *book, uint32_t which);
 void text_edge(struct dice *dice, struct text *text, const struct book *book, uint32_t which);
 void tape_edge(struct dice *dice, struct text *text, const struct book *book, uint32_t which);
@@ -82,6 +105,15 @@ void tape_edge(struct dice *dice, struct text *text, const struct book *book, ui
 /* inputs.c: whole inputs that are odd */
 uint32_t odd_inputs(void);
 void odd_input(struct dice *dice, struct text *text, const struct book *book, uint32_t which);
+
+/* gentables.c: lent tables of cases */
+void table_case_of(struct table_case *to, const struct book *book);
+void set_unused_places(struct trigger *row, uint8_t value);
+void junk_unused(struct dice *dice, struct table_case *to);
+void trim_rows(struct table_case *to);
+void spoil_loop(struct dice *dice, struct table_case *to);
+void give_loop(struct dice *dice, struct table_case *to);
+void spoil_row(struct dice *dice, struct table_case *to, uint32_t which);
 
 /* gensteps.c: step cases */
 void step_case_of(struct dice *dice, struct step_case *to, const struct book *book);
@@ -93,5 +125,23 @@ uint32_t step_spoils(void);
 uint32_t request_lists(void);
 void list_requests(struct dice *dice, struct step_case *to, uint32_t which, uint32_t way);
 void order_requests(struct dice *dice, struct step_case *to, int other);
+
+/* bounds.c: books at the bounds that the writer accepts, and books just outside them */
+uint32_t row_sizes(void);
+uint32_t inside_edges(void);
+uint32_t outside_edges(void);
+void sized_book(struct dice *dice, struct book *book, uint32_t which);
+void inside_book(struct dice *dice, struct book *book, uint32_t which);
+void book_for_edges(struct dice *dice, struct book *book);
+const struct edge *set_outside(struct dice *dice, struct book *book, uint32_t which, enum where where);
+void accepted_book(struct dice *dice, struct book *book);
+
+/* genwrites.c: write cases */
+void write_case_of(struct dice *dice, struct write_case *to, const struct book *book);
+maker write_good, write_dense, write_rows, write_field, write_wrong, write_unused, write_length;
+maker write_count, write_loop, write_tangle, write_spoils;
+
+/* gensheets.c: inputs of the command sheet */
+maker sheet_good, sheet_order, sheet_dense, sheet_rest, sheet_loop, sheet_damage, sheet_mend;
 
 #endif

@@ -65,7 +65,7 @@ static void step_waiting(struct dice *dice, struct step_case *to)
     }
     for (i = 0; i < count; i++) {
         row = chance(dice, 60) ? now : below(dice, WAITING_ROWS);
-        event = chance(dice, 80) ? any_event(dice, to->role_count) : below(dice, EVENTS);
+        event = chance(dice, 80) ? any_event(dice, to->tables.role_count) : below(dice, EVENTS);
         to->waiting[row * EVENTS + event] = any_mask(dice);
     }
     for (event = 0; event < EVENTS && way < 12; event++) {
@@ -82,62 +82,12 @@ static void move_windows(struct dice *dice, struct step_case *to)
     struct periodic other;
     uint32_t i;
 
-    for (i = 0; i < to->periodic_count; i++) {
-        good_periodic(dice, &other, to->role_count, to->instant);
-        if (to->periodic[i].end != NO_END || chance(dice, 2)) {
-            to->periodic[i].begin = other.begin;
-            to->periodic[i].end = other.end;
+    for (i = 0; i < to->tables.periodic_count; i++) {
+        good_periodic(dice, &other, to->tables.role_count, to->instant);
+        if (to->tables.periodic[i].end != NO_END || chance(dice, 2)) {
+            to->tables.periodic[i].begin = other.begin;
+            to->tables.periodic[i].end = other.end;
         }
-    }
-}
-
-/* Fills any bytes into a periodic row. */
-static void junk_periodic(struct dice *dice, struct periodic *row)
-{
-    row->begin = dice_number(dice);
-    row->end = dice_number(dice);
-    row->period = (uint16_t)dice_number(dice);
-    row->first = (uint16_t)dice_number(dice);
-    row->run = (uint16_t)dice_number(dice);
-    row->event = (uint8_t)dice_number(dice);
-    row->priority = (uint8_t)dice_number(dice);
-}
-
-/* Fills any bytes into a trigger row. */
-static void junk_trigger(struct dice *dice, struct trigger *row)
-{
-    unsigned i;
-
-    row->event_count = (uint8_t)(chance(dice, 50) ? below(dice, 6) : dice_number(dice));
-    row->condition_count = (uint8_t)(chance(dice, 50) ? below(dice, 6) : dice_number(dice));
-    for (i = 0; i < BODY_MOST; i++) {
-        row->events[i] = (uint8_t)dice_number(dice);
-        row->conditions[i] = (uint8_t)dice_number(dice);
-    }
-    row->head = (uint8_t)dice_number(dice);
-    row->priority = (uint8_t)dice_number(dice);
-    row->delay = (uint8_t)dice_number(dice);
-}
-
-/* Puts junk into unused rows and into the unused places of used triggers. */
-static void junk_unused(struct dice *dice, struct step_case *to)
-{
-    uint32_t i;
-    unsigned k;
-
-    for (i = 0; i < to->trigger_count; i++) {
-        for (k = to->trigger[i].event_count; k < BODY_MOST; k++) {
-            to->trigger[i].events[k] = (uint8_t)dice_number(dice);
-        }
-        for (k = to->trigger[i].condition_count; k < BODY_MOST; k++) {
-            to->trigger[i].conditions[k] = (uint8_t)dice_number(dice);
-        }
-    }
-    while (to->periodic_given < PERIODIC_MOST && chance(dice, 75)) {
-        junk_periodic(dice, &to->periodic[to->periodic_given++]);
-    }
-    while (to->trigger_given < TRIGGERS_MOST && chance(dice, 75)) {
-        junk_trigger(dice, &to->trigger[to->trigger_given++]);
     }
 }
 
@@ -151,7 +101,7 @@ static void step_requests(struct dice *dice, struct step_case *to)
         to->request_count = between(dice, 30, 32);
     }
     for (i = 0; i < to->request_count; i++) {
-        to->requests[i] = good_request(dice, to->role_count);
+        to->requests[i] = good_request(dice, to->tables.role_count);
     }
 }
 
@@ -159,21 +109,13 @@ static void step_requests(struct dice *dice, struct step_case *to)
 void step_case_of(struct dice *dice, struct step_case *to, const struct book *book)
 {
     memset(to, 0, sizeof *to);
-    to->periodic_length = PERIODIC_MOST;
-    to->trigger_length = TRIGGERS_MOST;
+    table_case_of(&to->tables, book);
     to->waiting_length = WAITING_LENGTH;
     to->events_length = EVENTS;
-    to->role_count = book->role_count;
-    to->periodic_count = book->periodic_count;
-    to->trigger_count = book->trigger_count;
-    to->periodic_given = to->periodic_count > PERIODIC_MOST ? PERIODIC_MOST : to->periodic_count;
-    to->trigger_given = to->trigger_count > TRIGGERS_MOST ? TRIGGERS_MOST : to->trigger_count;
-    memcpy(to->periodic, book->periodic, to->periodic_given * sizeof *to->periodic);
-    memcpy(to->trigger, book->trigger, to->trigger_given * sizeof *to->trigger);
     to->instant = step_instant(dice);
-    to->roles = step_roles(dice, to->role_count);
+    to->roles = step_roles(dice, to->tables.role_count);
     to->fill = (uint16_t)(chance(dice, 30) ? 0 : dice_number(dice));
-    if (to->role_count >= 1 && to->role_count <= ROLES_MOST) {
+    if (to->tables.role_count >= 1 && to->tables.role_count <= ROLES_MOST) {
         step_waiting(dice, to);
         step_requests(dice, to);
     }
@@ -182,10 +124,10 @@ void step_case_of(struct dice *dice, struct step_case *to, const struct book *bo
 /* Adds what a good step may have besides: windows near the instant and junk in what is unused. */
 static void finish_good(struct dice *dice, struct step_case *to)
 {
-    if (to->periodic_count <= PERIODIC_MOST && to->trigger_count <= TRIGGERS_MOST) {
+    if (to->tables.periodic_count <= PERIODIC_MOST && to->tables.trigger_count <= TRIGGERS_MOST) {
         move_windows(dice, to);
         if (chance(dice, 50)) {
-            junk_unused(dice, to);
+            junk_unused(dice, &to->tables);
         }
     }
 }
@@ -213,20 +155,15 @@ static void spoil_length(struct dice *dice, struct step_case *to, uint32_t which
     uint32_t i;
 
     if (which == 0) {
-        to->periodic_length = wrong_length(dice, PERIODIC_MOST, FORM_PERIODIC_MOST);
+        to->tables.periodic_length = wrong_length(dice, PERIODIC_MOST, FORM_PERIODIC_MOST);
     } else if (which == 1) {
-        to->trigger_length = wrong_length(dice, TRIGGERS_MOST, FORM_TRIGGERS_MOST);
+        to->tables.trigger_length = wrong_length(dice, TRIGGERS_MOST, FORM_TRIGGERS_MOST);
     } else if (which == 2) {
         to->waiting_length = wrong_length(dice, WAITING_LENGTH, FORM_WAITING_MOST);
     } else {
         to->events_length = wrong_length(dice, EVENTS, FORM_EVENTS_MOST);
     }
-    if (to->periodic_given > to->periodic_length) {
-        to->periodic_given = to->periodic_length;
-    }
-    if (to->trigger_given > to->trigger_length) {
-        to->trigger_given = to->trigger_length;
-    }
+    trim_rows(&to->tables);
     for (i = to->waiting_length; i < FORM_WAITING_MOST; i++) {
         to->waiting[i] = 0;
     }
@@ -239,13 +176,13 @@ static void spoil_count(struct dice *dice, struct step_case *to, uint32_t which)
     uint32_t more = over[below(dice, 8)], i;
 
     if (which == 0) {
-        to->periodic_count = chance(dice, 20) ? UINT32_MAX : PERIODIC_MOST + more;
+        to->tables.periodic_count = chance(dice, 20) ? UINT32_MAX : PERIODIC_MOST + more;
     } else if (which == 1) {
-        to->trigger_count = chance(dice, 20) ? UINT32_MAX : TRIGGERS_MOST + more;
+        to->tables.trigger_count = chance(dice, 20) ? UINT32_MAX : TRIGGERS_MOST + more;
     } else if (which == 2) {
-        to->role_count = chance(dice, 20) ? UINT32_MAX : ROLES_MOST + more;
+        to->tables.role_count = chance(dice, 20) ? UINT32_MAX : ROLES_MOST + more;
     } else if (which == 3) {
-        to->role_count = 0;
+        to->tables.role_count = 0;
     } else {
         more = more > 512 ? between(dice, 1, 992) : more;
         for (i = to->request_count; i < REQUESTS_MOST + more; i++) {
@@ -276,55 +213,7 @@ static void spoil_request(struct dice *dice, struct step_case *to, uint32_t whic
         to->requests[0] = good_request(dice, 1);
         to->request_count = 1;
     }
-    wrong_request(dice, &to->requests[below(dice, to->request_count)], to->role_count, which);
-}
-
-/* Puts a loop of one or two triggers in place of used rows. */
-static void spoil_loop(struct dice *dice, struct step_case *to)
-{
-    unsigned role = below(dice, to->role_count > ROLES_MOST ? ROLES_MOST : to->role_count);
-    uint32_t at;
-    struct trigger *row;
-
-    if (to->trigger_count == 0 || to->trigger_count > to->trigger_given) {
-        return;
-    }
-    at = below(dice, to->trigger_count);
-    row = &to->trigger[at];
-    row->event_count = 1;
-    row->events[0] = (uint8_t)(2 * role + 1);
-    row->head = (uint8_t)(2 * role);
-    row->priority = (uint8_t)below(dice, PRIORITIES);
-    row->delay = 0;
-}
-
-/*
- * Puts junk into a used row, brings one of its fields over a limit, or counts rows that are not
- * given.
- */
-static void spoil_row(struct dice *dice, struct step_case *to, uint32_t which)
-{
-    uint32_t at;
-
-    if (which == 4) {
-        to->periodic_count = between(dice, to->periodic_given, PERIODIC_MOST);
-    } else if (which == 5) {
-        to->trigger_count = between(dice, to->trigger_given, TRIGGERS_MOST);
-    } else if (which < 2 && to->periodic_given > 0) {
-        at = below(dice, to->periodic_given);
-        if (which == 0) {
-            junk_periodic(dice, &to->periodic[at]);
-        } else {
-            to->periodic[at].priority = 16;
-        }
-    } else if (to->trigger_given > 0) {
-        at = below(dice, to->trigger_given);
-        if (which == 2) {
-            junk_trigger(dice, &to->trigger[at]);
-        } else {
-            to->trigger[at].delay = 61;
-        }
-    }
+    wrong_request(dice, &to->requests[below(dice, to->request_count)], to->tables.role_count, which);
 }
 
 /* How many ways of spoiling a step there are. */
@@ -349,8 +238,8 @@ void spoil_step(struct dice *dice, struct step_case *to, uint32_t which)
     } else if (which < 31) {
         spoil_request(dice, to, which % 4);
     } else if (which < 34) {
-        spoil_loop(dice, to);
+        spoil_loop(dice, &to->tables);
     } else {
-        spoil_row(dice, to, which % 6);
+        spoil_row(dice, &to->tables, which % 6);
     }
 }

@@ -35,6 +35,17 @@ int next_line(struct cursor *cursor, struct line *line)
     return 1;
 }
 
+/* How many lines some bytes have, one without 0A at the end counted too. */
+uint32_t count_lines(const uint8_t *bytes, size_t length)
+{
+    struct cursor cursor = cursor_at(bytes, length, 0);
+    struct line line;
+
+    while (next_line(&cursor, &line)) {
+    }
+    return cursor.line;
+}
+
 /* The value of an upper-case hexadecimal digit, or -1 for any other character. */
 static int digit_value(uint8_t character)
 {

@@ -34,7 +34,7 @@ uint32_t request_lists(void)
 /* One request more: of a delay that those before it do not have, of this instant, the first again, or any. */
 static struct request next_request(struct dice *dice, const struct step_case *to, uint32_t way)
 {
-    struct request request = good_request(dice, to->role_count);
+    struct request request = good_request(dice, to->tables.role_count);
 
     if (way == 0) {
         request.delay = (uint8_t)(DELAY_MOST - to->request_count % (DELAY_MOST + 1));
@@ -55,10 +55,10 @@ void list_requests(struct dice *dice, struct step_case *to, uint32_t which, uint
         to->requests[to->request_count] = next_request(dice, to, way % 4);
     }
     if (list->wrong != NONE) {
-        wrong_request(dice, &to->requests[list->wrong], to->role_count, below(dice, 4));
+        wrong_request(dice, &to->requests[list->wrong], to->tables.role_count, below(dice, 4));
     }
     if (list->later != NONE) {
-        wrong_request(dice, &to->requests[list->later], to->role_count, below(dice, 4));
+        wrong_request(dice, &to->requests[list->later], to->tables.role_count, below(dice, 4));
     }
 }
 
@@ -84,7 +84,7 @@ void order_requests(struct dice *dice, struct step_case *to, int other)
     uint32_t length = between(dice, 2, REQUESTS_MOST);
 
     for (to->request_count = 0; to->request_count < length; to->request_count++) {
-        to->requests[to->request_count] = good_request(dice, to->role_count);
+        to->requests[to->request_count] = good_request(dice, to->tables.role_count);
     }
     if (other) {
         reorder(dice, to);

@@ -5,13 +5,26 @@
 #include <stdlib.h>
 #include <string.h>
 
+/* A command without numbers behind it. */
+struct command {
+    const char *name;
+    int (*run)(void);
+};
+
+static const struct command commands[] = {
+    {"day", command_day}, {"sheet", command_sheet},
+    {"read", command_read}, {"step", command_step}, {"write", command_write},
+    {"kinds", command_kinds}, {"examples", command_examples}
+};
+
 /* Says how the program is used; the status for misuse comes back. */
 static int usage(void)
 {
     fprintf(stderr,
-            "usage: second day | read | step | kinds | examples\n"
+            "usage: second day | sheet | read | step | write | kinds | examples\n"
             "       second gen SEED KIND [N]\n"
-            "       second brute N [SEED]\n");
+            "       second brute N [SEED]\n"
+            "       second rounds N [SEED]\n");
     return 2;
 }
 
@@ -42,36 +55,32 @@ static int numbered(int count, char **words)
         if (decimal(words[2], &one) && (count == 4 || decimal(words[4], &other))) {
             return command_gen(one, words[3], other);
         }
+        return usage();
     }
-    if (strcmp(words[1], "brute") == 0 && (count == 3 || count == 4)) {
-        if (decimal(words[2], &one) && (count == 3 || decimal(words[3], &other))) {
-            return command_brute(one, other);
-        }
+    if ((count != 3 && count != 4) || !decimal(words[2], &one)
+        || (count == 4 && !decimal(words[3], &other))) {
+        return usage();
     }
-    return usage();
+    if (strcmp(words[1], "brute") == 0) {
+        return command_brute(one, other);
+    }
+    return strcmp(words[1], "rounds") == 0 ? command_rounds(one, other) : usage();
 }
 
 /* Chooses the command. */
 static int choose(int count, char **words)
 {
-    if (count == 2) {
-        if (strcmp(words[1], "day") == 0) {
-            return command_day();
-        }
-        if (strcmp(words[1], "read") == 0) {
-            return command_read();
-        }
-        if (strcmp(words[1], "step") == 0) {
-            return command_step();
-        }
-        if (strcmp(words[1], "kinds") == 0) {
-            return command_kinds();
-        }
-        if (strcmp(words[1], "examples") == 0) {
-            return command_examples();
+    size_t i;
+
+    if (count < 2) {
+        return usage();
+    }
+    for (i = 0; count == 2 && i < sizeof commands / sizeof commands[0]; i++) {
+        if (strcmp(words[1], commands[i].name) == 0) {
+            return commands[i].run();
         }
     }
-    return count < 2 ? usage() : numbered(count, words);
+    return numbered(count, words);
 }
 
 /* Runs the command and makes sure that its output was written. */

@@ -1,90 +1,64 @@
 /* A book as the text of a sheet and a tape. */
 #include "gen.h"
 
-/* Puts a number into bytes, high byte first; how many bytes come back. */
-static size_t put_number(uint8_t *bytes, uint32_t value, size_t count)
-{
-    size_t i;
-
-    for (i = 0; i < count; i++) {
-        bytes[i] = (uint8_t)(value >> (8 * (count - 1 - i)));
-    }
-    return count;
-}
-
 /* The header line. */
 void put_header(struct text *out, const struct book *book)
 {
-    uint8_t bytes[3];
-
-    bytes[0] = 0x10;
-    bytes[1] = book->version;
-    bytes[2] = (uint8_t)book->role_count;
-    text_frame(out, bytes, sizeof bytes);
-}
-
-/* The line of a periodic row. */
-void put_periodic(struct text *out, const struct periodic *row)
-{
-    uint8_t bytes[17];
-    size_t at = 0;
-
-    bytes[at++] = 0x20;
-    at += put_number(bytes + at, row->begin, 4);
-    at += put_number(bytes + at, row->end, 4);
-    at += put_number(bytes + at, row->period, 2);
-    at += put_number(bytes + at, row->first, 2);
-    at += put_number(bytes + at, row->run, 2);
-    bytes[at++] = row->event;
-    bytes[at++] = row->priority;
-    text_frame(out, bytes, at);
-}
-
-/* The line of a trigger; when a count is over the limit its places are gone through again. */
-void put_trigger(struct text *out, const struct trigger *row)
-{
-    uint8_t bytes[600];
-    size_t at = 0;
-    unsigned i;
-
-    bytes[at++] = 0x30;
-    bytes[at++] = row->event_count;
-    bytes[at++] = row->condition_count;
-    for (i = 0; i < row->event_count; i++) {
-        bytes[at++] = row->events[i % BODY_MOST];
-    }
-    for (i = 0; i < row->condition_count; i++) {
-        bytes[at++] = row->conditions[i % BODY_MOST];
-    }
-    bytes[at++] = row->head;
-    bytes[at++] = row->priority;
-    bytes[at++] = row->delay;
-    text_frame(out, bytes, at);
+    put_header_of(out, book->version, book->role_count);
 }
 
 /* The end line with the counts that the book says. */
 void put_end(struct text *out, const struct book *book)
 {
-    uint8_t bytes[4];
+    put_end_of(out, book->end_periodic, book->end_trigger);
+}
 
-    bytes[0] = 0xF0;
-    put_number(bytes + 1, book->end_periodic, 1);
-    put_number(bytes + 2, book->end_trigger, 2);
-    text_frame(out, bytes, sizeof bytes);
+/* How many rows of a book were put so far. */
+struct rows_put {
+    uint32_t periodic;
+    uint32_t triggers;
+};
+
+/* Whether rows of the book are left. */
+static int rows_left(const struct book *book, const struct rows_put *rows)
+{
+    return rows->periodic < book->periodic_count || rows->triggers < book->trigger_count;
+}
+
+/* Puts the next row of a book: of the periodic ones if asked, unless only the others are left. */
+static void put_row(struct text *out, const struct book *book, struct rows_put *rows, int periodic)
+{
+    if (rows->periodic < book->periodic_count
+        && (periodic || rows->triggers >= book->trigger_count)) {
+        put_periodic(out, &book->periodic[rows->periodic++]);
+    } else {
+        put_trigger(out, &book->trigger[rows->triggers++]);
+    }
 }
 
 /* The whole sheet: the header, periodic rows and triggers in turns, the end. */
 void put_sheet(struct text *out, const struct book *book)
 {
-    uint32_t i = 0, k = 0;
+    struct rows_put rows = {0, 0};
 
     put_header(out, book);
-    while (i < book->periodic_count || k < book->trigger_count) {
-        if (i < book->periodic_count && (k >= book->trigger_count || (i * 7 + k * 3) % 5 < 3)) {
-            put_periodic(out, &book->periodic[i++]);
-        } else {
-            put_trigger(out, &book->trigger[k++]);
-        }
+    while (rows_left(book, &rows)) {
+        put_row(out, book, &rows, (rows.periodic * 7 + rows.triggers * 3) % 5 < 3);
+    }
+    put_end(out, book);
+}
+
+/*
+ * The whole sheet, each next row a periodic one in so many of a hundred cases: 100 puts them all
+ * before the triggers, 0 all after them.
+ */
+void put_mixed(struct dice *dice, struct text *out, const struct book *book, uint32_t percent)
+{
+    struct rows_put rows = {0, 0};
+
+    put_header(out, book);
+    while (rows_left(book, &rows)) {
+        put_row(out, book, &rows, chance(dice, percent));
     }
     put_end(out, book);
 }

@@ -28,7 +28,7 @@ static int kind_right(const struct frame *frame, uint32_t number)
 static struct answer take_header(struct sheet *sheet, const struct frame *frame, uint32_t number)
 {
     sheet->role_count = frame->bytes[2];
-    if (frame->bytes[1] != 1 || sheet->role_count < 1 || sheet->role_count > ROLES_MOST) {
+    if (frame->bytes[1] != SHEET_VERSION || sheet->role_count < 1 || sheet->role_count > ROLES_MOST) {
         return answer(FIELD, number);
     }
     return answer(OK, 0);

@@ -4,52 +4,15 @@
 #include <stdio.h>
 #include <string.h>
 
-/* Puts a periodic row, 16 bytes in frame order. */
-void put_periodic_row(struct text *out, const struct periodic *row)
-{
-    text_hex(out, row->begin, 8);
-    text_hex(out, row->end, 8);
-    text_hex(out, row->period, 4);
-    text_hex(out, row->first, 4);
-    text_hex(out, row->run, 4);
-    text_hex(out, row->event, 2);
-    text_hex(out, row->priority, 2);
-}
-
-/* Puts a trigger row, 13 bytes: counts, event places, condition places, head, priority, delay. */
-void put_trigger_row(struct text *out, const struct trigger *row)
-{
-    unsigned i;
-
-    text_hex(out, row->event_count, 2);
-    text_hex(out, row->condition_count, 2);
-    for (i = 0; i < BODY_MOST; i++) {
-        text_hex(out, row->events[i], 2);
-    }
-    for (i = 0; i < BODY_MOST; i++) {
-        text_hex(out, row->conditions[i], 2);
-    }
-    text_hex(out, row->head, 2);
-    text_hex(out, row->priority, 2);
-    text_hex(out, row->delay, 2);
-}
-
 /* Puts a whole read case: its head line, the sheet, a 0A. */
 void put_read_case(struct text *out, const struct read_case *from, const uint8_t *sheet)
 {
-    uint32_t i;
-
     text_hex(out, from->sheet_length, 8);
-    text_byte(out, ' ');
-    text_hex(out, from->periodic_length, 4);
-    text_byte(out, ' ');
-    text_hex(out, from->trigger_length, 4);
-    text_byte(out, ' ');
-    text_hex(out, from->fill, 2);
+    put_next(out, from->periodic_length, 4);
+    put_next(out, from->trigger_length, 4);
+    put_next(out, from->fill, 2);
     text_byte(out, 0x0A);
-    for (i = 0; i < from->sheet_length; i++) {
-        text_byte(out, sheet[i]);
-    }
+    text_bytes(out, sheet, from->sheet_length);
     text_byte(out, 0x0A);
 }
 
@@ -58,14 +21,10 @@ static void take_read_case(struct read_case *to, uint8_t *sheet)
 {
     uint32_t i;
 
-    to->sheet_length = (uint32_t)form_hex(8, FORM_SHEET_MOST, "length of the sheet");
-    form_byte(' ', "blank");
-    to->periodic_length = (uint32_t)form_hex(4, FORM_PERIODIC_MOST, "length of the periodic table");
-    form_byte(' ', "blank");
-    to->trigger_length = (uint32_t)form_hex(4, FORM_TRIGGERS_MOST, "length of the trigger table");
-    form_byte(' ', "blank");
-    to->fill = (uint8_t)form_hex(2, 0xFF, "fill");
-    form_byte(0x0A, "end of the head line");
+    to->sheet_length = (uint32_t)take_next(8, FORM_SHEET_MOST, ' ', "length of the sheet");
+    to->periodic_length = take_periodic_length();
+    to->trigger_length = take_trigger_length();
+    to->fill = (uint8_t)take_next(2, 0xFF, 0x0A, "fill");
     for (i = 0; i < to->sheet_length; i++) {
         sheet[i] = (uint8_t)form_raw("byte of the sheet");
     }
@@ -73,7 +32,7 @@ static void take_read_case(struct read_case *to, uint8_t *sheet)
 }
 
 /* Whether a range of bytes holds one value only. */
-static int all_bytes(const void *from, size_t length, uint8_t value)
+int all_bytes(const void *from, size_t length, uint8_t value)
 {
     const uint8_t *bytes = from;
     size_t i;
@@ -123,15 +82,10 @@ static void put_read_result(struct text *out, struct answer found, const struct 
 {
     uint32_t i;
 
-    text_hex(out, found.number, 2);
-    text_byte(out, ' ');
-    text_hex(out, found.place, 8);
-    text_byte(out, ' ');
-    text_hex(out, sheet->role_count, 2);
-    text_byte(out, ' ');
-    text_hex(out, sheet->periodic_count, 2);
-    text_byte(out, ' ');
-    text_hex(out, sheet->trigger_count, 4);
+    put_answer(out, found);
+    put_next(out, sheet->role_count, 2);
+    put_next(out, sheet->periodic_count, 2);
+    put_next(out, sheet->trigger_count, 4);
     for (i = 0; i < sheet->periodic_count; i++) {
         text_byte(out, ' ');
         put_periodic_row(out, &lent->periodic[i]);
@@ -140,8 +94,7 @@ static void put_read_result(struct text *out, struct answer found, const struct 
         text_byte(out, ' ');
         put_trigger_row(out, &lent->trigger[i]);
     }
-    text_byte(out, ' ');
-    text_hex(out, (uint64_t)mark, 1);
+    put_next(out, (uint64_t)mark, 1);
     text_byte(out, 0x0A);
 }
 

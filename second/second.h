@@ -18,6 +18,7 @@ enum {
     WAITING_ROWS = 61,
     WAITING_LENGTH = 7808,
     SHEET_MOST = 16384,
+    SHEET_VERSION = 1,
     INPUT_MOST = 65536,
     DAY_LAST_MOST = 10080,
     FRAME_MOST = 32768,
@@ -146,6 +147,12 @@ struct cursor {
     uint32_t line;
 };
 
+/* The part of an input that is sheet: how many bytes and how many lines. */
+struct part {
+    size_t length;
+    uint32_t lines;
+};
+
 /* One line without its 0A, and whether the 0A was there. */
 struct line {
     const uint8_t *bytes;
@@ -169,6 +176,7 @@ struct text {
 struct answer answer(unsigned number, uint32_t place);
 void text_clear(struct text *text);
 void text_byte(struct text *text, unsigned byte);
+void text_bytes(struct text *text, const uint8_t *bytes, size_t length);
 void text_hex(struct text *text, uint64_t value, unsigned digits);
 void text_frame(struct text *text, const uint8_t *bytes, size_t length);
 void text_print(const struct text *text);
@@ -200,6 +208,12 @@ struct set solution(const struct tables *tables, uint64_t roles,
 void do_instant(const struct tables *tables, struct state *state,
                 uint16_t *events, const struct requests *requests);
 
+/* tables.c */
+struct tables tables_of(const struct sheet *sheet, const struct lent *lent);
+int table_lengths_right(const struct tables *tables);
+int table_counts_right(const struct tables *tables);
+struct answer field_and_loop(const struct tables *tables);
+
 /* step.c */
 struct answer step(const struct tables *tables, struct state *state,
                    uint16_t *events, size_t events_length,
@@ -208,6 +222,7 @@ struct answer step(const struct tables *tables, struct state *state,
 /* lines.c */
 struct cursor cursor_at(const uint8_t *bytes, size_t length, uint32_t line);
 int next_line(struct cursor *cursor, struct line *line);
+uint32_t count_lines(const uint8_t *bytes, size_t length);
 struct answer frame_and_check(const struct line *line, uint32_t number,
                               struct frame *frame);
 uint32_t number_at(const struct frame *frame, size_t at, size_t bytes);
@@ -216,17 +231,38 @@ uint32_t number_at(const struct frame *frame, size_t at, size_t bytes);
 struct answer read_sheet(const uint8_t *bytes, size_t length,
                          const struct lent *lent, struct sheet *sheet);
 
+/* frames.c */
+size_t put_number(uint8_t *bytes, uint32_t value, size_t count);
+void put_header_of(struct text *out, unsigned version, uint32_t role_count);
+void put_periodic(struct text *out, const struct periodic *row);
+void put_trigger(struct text *out, const struct trigger *row);
+void put_end_of(struct text *out, uint32_t periodic_count, uint32_t trigger_count);
+
+/* writer.c */
+struct answer write_sheet(const struct tables *tables, uint8_t *buffer, size_t buffer_length,
+                          size_t *written);
+
 /* tape.c */
 struct answer read_tape(const uint8_t *bytes, size_t length,
                         uint32_t first_line, uint32_t role_count,
                         struct tape *tape);
 
+/* whole.c: what the programs of a day and of a sheet have in common */
+size_t take_input(uint8_t *input);
+void put_refusal(struct text *out, struct answer refusal);
+struct answer test_sheet(const uint8_t *input, size_t length, const struct lent *lent,
+                         struct sheet *sheet, struct part *part);
+
 /* day.c */
 void day(const uint8_t *input, size_t length, struct text *out);
 
-/* readform.c, stepform.c, form.c: the commands read and step */
+/* resend.c */
+void resend(const uint8_t *input, size_t length, struct text *out);
+
+/* readform.c, stepform.c, writeform.c, form.c: the commands read, step and write */
 int command_read(void);
 int command_step(void);
+int command_write(void);
 void bad_form(const char *what);
 int more_cases(void);
 uint64_t form_hex(unsigned digits, uint64_t most, const char *what);
@@ -235,6 +271,8 @@ unsigned form_raw(const char *what);
 
 /* The other commands. */
 int command_day(void);
+int command_sheet(void);
+int command_rounds(uint64_t rounds, uint64_t seed);
 int command_brute(uint64_t cases, uint64_t seed);
 int command_examples(void);
 int command_kinds(void);

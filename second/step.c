@@ -5,8 +5,7 @@
 static int lengths_right(const struct tables *tables, const struct state *state,
                          size_t events_length)
 {
-    return tables->periodic_length == PERIODIC_MOST
-        && tables->trigger_length == TRIGGERS_MOST
+    return table_lengths_right(tables)
         && state->waiting_length == WAITING_LENGTH
         && events_length == EVENTS;
 }
@@ -14,33 +13,7 @@ static int lengths_right(const struct tables *tables, const struct state *state,
 /* TOO MANY: no count is over its limit. */
 static int counts_right(const struct tables *tables, const struct requests *requests)
 {
-    return tables->periodic_count <= PERIODIC_MOST
-        && tables->trigger_count <= TRIGGERS_MOST
-        && requests->count <= REQUESTS_MOST;
-}
-
-/*
- * FIELD: the role count, then the used rows, periodic from 0 and triggers from the periodic
- * count on.
- */
-static struct answer field_test(const struct tables *tables)
-{
-    uint32_t i;
-
-    if (tables->role_count < 1 || tables->role_count > ROLES_MOST) {
-        return answer(FIELD, 0);
-    }
-    for (i = 0; i < tables->periodic_count; i++) {
-        if (!periodic_fields_right(&tables->periodic[i], tables->role_count)) {
-            return answer(FIELD, i);
-        }
-    }
-    for (i = 0; i < tables->trigger_count; i++) {
-        if (!trigger_fields_right(&tables->trigger[i], tables->role_count)) {
-            return answer(FIELD, tables->periodic_count + i);
-        }
-    }
-    return answer(OK, 0);
+    return table_counts_right(tables) && requests->count <= REQUESTS_MOST;
 }
 
 /* REQUEST: the first request, from 0, that is not right. */
@@ -72,11 +45,7 @@ struct answer step(const struct tables *tables, struct state *state,
     if (!counts_right(tables, requests)) {
         return answer(TOO_MANY, 0);
     }
-    found = field_test(tables);
-    if (found.number != OK) {
-        return found;
-    }
-    found = loop_test(tables->trigger, tables->trigger_count);
+    found = field_and_loop(tables);
     if (found.number != OK) {
         return found;
     }

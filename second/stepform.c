@@ -4,13 +4,6 @@
 #include <stdio.h>
 #include <string.h>
 
-/* Puts a blank and a number. */
-static void put_next(struct text *out, uint64_t value, unsigned digits)
-{
-    text_byte(out, ' ');
-    text_hex(out, value, digits);
-}
-
 /* How many numbers of a buffer are not zero. */
 static uint32_t nonzero(const uint16_t *numbers, uint32_t length)
 {
@@ -27,18 +20,18 @@ static uint32_t nonzero(const uint16_t *numbers, uint32_t length)
 /* Puts the head line of a step case. */
 static void put_step_head(struct text *out, const struct step_case *from)
 {
-    text_hex(out, from->periodic_length, 4);
-    put_next(out, from->trigger_length, 4);
+    text_hex(out, from->tables.periodic_length, 4);
+    put_next(out, from->tables.trigger_length, 4);
     put_next(out, from->waiting_length, 4);
     put_next(out, from->events_length, 4);
-    put_next(out, from->role_count, 8);
-    put_next(out, from->periodic_count, 8);
-    put_next(out, from->trigger_count, 8);
+    put_next(out, from->tables.role_count, 8);
+    put_next(out, from->tables.periodic_count, 8);
+    put_next(out, from->tables.trigger_count, 8);
     put_next(out, from->instant, 8);
     put_next(out, from->roles, 16);
     put_next(out, from->fill, 4);
-    put_next(out, from->periodic_given, 4);
-    put_next(out, from->trigger_given, 4);
+    put_next(out, from->tables.periodic_given, 4);
+    put_next(out, from->tables.trigger_given, 4);
     put_next(out, nonzero(from->waiting, from->waiting_length), 4);
     put_next(out, from->request_count, 4);
     text_byte(out, 0x0A);
@@ -53,14 +46,7 @@ void put_step_case(struct text *out, const struct step_case *from)
     uint32_t i;
 
     put_step_head(out, from);
-    for (i = 0; i < from->periodic_given; i++) {
-        put_periodic_row(out, &from->periodic[i]);
-        text_byte(out, 0x0A);
-    }
-    for (i = 0; i < from->trigger_given; i++) {
-        put_trigger_row(out, &from->trigger[i]);
-        text_byte(out, 0x0A);
-    }
+    put_rows(out, &from->tables);
     for (i = 0; i < from->waiting_length; i++) {
         if (from->waiting[i] != 0) {
             text_hex(out, i / EVENTS, 2);
@@ -77,65 +63,23 @@ void put_step_case(struct text *out, const struct step_case *from)
     }
 }
 
-/* Takes a number that is followed by a given byte. */
-static uint64_t take_next(unsigned digits, uint64_t most, unsigned after, const char *what)
-{
-    uint64_t value = form_hex(digits, most, what);
-
-    form_byte(after, what);
-    return value;
-}
-
 /* Takes the head line of a step case; the number of waiting entries comes back. */
 static uint32_t take_step_head(struct step_case *to)
 {
     uint32_t entries;
 
-    to->periodic_length = (uint32_t)take_next(4, FORM_PERIODIC_MOST, ' ', "length of the periodic table");
-    to->trigger_length = (uint32_t)take_next(4, FORM_TRIGGERS_MOST, ' ', "length of the trigger table");
+    to->tables.periodic_length = take_periodic_length();
+    to->tables.trigger_length = take_trigger_length();
     to->waiting_length = (uint32_t)take_next(4, FORM_WAITING_MOST, ' ', "length of the waiting buffer");
     to->events_length = (uint32_t)take_next(4, FORM_EVENTS_MOST, ' ', "length of the events buffer");
-    to->role_count = (uint32_t)take_next(8, UINT32_MAX, ' ', "role count");
-    to->periodic_count = (uint32_t)take_next(8, UINT32_MAX, ' ', "periodic count");
-    to->trigger_count = (uint32_t)take_next(8, UINT32_MAX, ' ', "trigger count");
+    take_counts(&to->tables);
     to->instant = (uint32_t)take_next(8, UINT32_MAX, ' ', "next instant");
     to->roles = take_next(16, UINT64_MAX, ' ', "enabled roles");
     to->fill = (uint16_t)take_next(4, UINT16_MAX, ' ', "fill");
-    to->periodic_given = (uint32_t)take_next(4, to->periodic_length, ' ', "periodic rows given");
-    to->trigger_given = (uint32_t)take_next(4, to->trigger_length, ' ', "triggers given");
+    take_given(&to->tables, ' ');
     entries = (uint32_t)take_next(4, FORM_WAITING_MOST, ' ', "waiting entries given");
     to->request_count = (uint32_t)take_next(4, FORM_REQUESTS_MOST, 0x0A, "requests given");
     return entries;
-}
-
-/* Takes a periodic row, 16 bytes in frame order. */
-static void take_periodic_row(struct periodic *row)
-{
-    row->begin = (uint32_t)form_hex(8, UINT32_MAX, "periodic row");
-    row->end = (uint32_t)form_hex(8, UINT32_MAX, "periodic row");
-    row->period = (uint16_t)form_hex(4, UINT16_MAX, "periodic row");
-    row->first = (uint16_t)form_hex(4, UINT16_MAX, "periodic row");
-    row->run = (uint16_t)form_hex(4, UINT16_MAX, "periodic row");
-    row->event = (uint8_t)form_hex(2, UINT8_MAX, "periodic row");
-    row->priority = (uint8_t)take_next(2, UINT8_MAX, 0x0A, "periodic row");
-}
-
-/* Takes a trigger row, 13 bytes. */
-static void take_trigger_row(struct trigger *row)
-{
-    unsigned i;
-
-    row->event_count = (uint8_t)form_hex(2, UINT8_MAX, "trigger row");
-    row->condition_count = (uint8_t)form_hex(2, UINT8_MAX, "trigger row");
-    for (i = 0; i < BODY_MOST; i++) {
-        row->events[i] = (uint8_t)form_hex(2, UINT8_MAX, "trigger row");
-    }
-    for (i = 0; i < BODY_MOST; i++) {
-        row->conditions[i] = (uint8_t)form_hex(2, UINT8_MAX, "trigger row");
-    }
-    row->head = (uint8_t)form_hex(2, UINT8_MAX, "trigger row");
-    row->priority = (uint8_t)form_hex(2, UINT8_MAX, "trigger row");
-    row->delay = (uint8_t)take_next(2, UINT8_MAX, 0x0A, "trigger row");
 }
 
 /* Takes one waiting entry: row, event and set of priorities. */
@@ -158,12 +102,7 @@ static void take_step_case(struct step_case *to)
 
     memset(to, 0, sizeof *to);
     entries = take_step_head(to);
-    for (i = 0; i < to->periodic_given; i++) {
-        take_periodic_row(&to->periodic[i]);
-    }
-    for (i = 0; i < to->trigger_given; i++) {
-        take_trigger_row(&to->trigger[i]);
-    }
+    take_rows(&to->tables);
     for (i = 0; i < entries; i++) {
         take_waiting_entry(to);
     }
@@ -180,8 +119,7 @@ static void put_step_result(struct text *out, struct answer found, const struct 
 {
     uint32_t i, waiting_length = (uint32_t)state->waiting_length;
 
-    text_hex(out, found.number, 2);
-    put_next(out, found.place, 8);
+    put_answer(out, found);
     put_next(out, state->instant, 8);
     put_next(out, state->roles, 16);
     put_next(out, nonzero(state->waiting, waiting_length), 4);
@@ -207,19 +145,12 @@ static void do_step_case(struct step_case *given)
 {
     static uint16_t events[FORM_EVENTS_MOST];
     static struct text out;
-    struct tables tables;
+    struct tables tables = tables_given(&given->tables);
     struct state state;
     struct requests requests;
     struct answer found;
     uint32_t i;
 
-    tables.periodic = given->periodic;
-    tables.periodic_length = given->periodic_length;
-    tables.trigger = given->trigger;
-    tables.trigger_length = given->trigger_length;
-    tables.role_count = given->role_count;
-    tables.periodic_count = given->periodic_count;
-    tables.trigger_count = given->trigger_count;
     state.instant = given->instant;
     state.roles = given->roles;
     state.waiting = given->waiting;

@@ -31,6 +31,16 @@ void text_byte(struct text *text, unsigned byte)
     text->length++;
 }
 
+/* Puts bytes as they stand at the end of the page. */
+void text_bytes(struct text *text, const uint8_t *bytes, size_t length)
+{
+    size_t i;
+
+    for (i = 0; i < length; i++) {
+        text_byte(text, bytes[i]);
+    }
+}
+
 /* Puts a number in upper-case hexadecimal of a fixed width, high digit first. */
 void text_hex(struct text *text, uint64_t value, unsigned digits)
 {

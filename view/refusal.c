@@ -20,13 +20,8 @@ static const char *name_of(unsigned number)
 /* KIND past the last line: an end is missing. */
 static const char *missing(const struct refusal *refusal)
 {
-    if (!refusal->on_tape) {
-        return "the end of the sheet, a frame F0, is missing";
-    }
-    if (refusal->before == 0) {
-        return "no tape follows the sheet; the shortest is the one line F1000000000F";
-    }
-    return "the end of the tape, a frame F1, is missing";
+    return refusal->on_tape ? "the end of the tape, a frame F1, is missing"
+                            : "the end of the sheet, a frame F0, is missing";
 }
 
 /* KIND of a line. */

@@ -1,14 +1,15 @@
 /*
- * A sheet and its tape in words, a line for each frame. What passes and what does not is the day
- * program's to say: the first line that it printed of this input is given with it, and here no
- * more is asked of a frame than what it says.
+ * A sheet and its tape, or a sheet alone, in words, a line for each frame. What passes and what
+ * does not is for the proved programs to say: the first line that the one of a day, or of a sheet
+ * alone, printed of this input is given with it, and here no more is asked of a frame than what it
+ * says.
  */
 #include "refusal.h"
 
 #include <stdlib.h>
 #include <string.h>
 
-enum { KEPT_MOST = 65537 }; /* the day program reads no more */
+enum { KEPT_MOST = 65537 }; /* the programs read no more */
 
 /* One clear line; the status comes back. */
 static int fail(int status, const char *why)
@@ -18,8 +19,8 @@ static int fail(int status, const char *why)
 }
 
 /*
- * Reads the day program's first line: 50 begins a day, which is OK, E0 a refusal with its number
- * and place. 0 when it is neither.
+ * Reads a program's first line: 50 begins a day and 10 a sheet, which are OK, E0 a refusal with its
+ * number and place. 0 when it is none of them.
  */
 static int read_verdict(const char *text, struct refusal *refusal)
 {
@@ -34,14 +35,14 @@ static int read_verdict(const char *text, struct refusal *refusal)
         return 0;
     }
     if (frame.bytes[0] != REFUSAL_FRAME || frame.length != 7) {
-        return frame.bytes[0] == MINUTE_FRAME;
+        return frame.bytes[0] == MINUTE_FRAME || frame.bytes[0] == HEADER;
     }
     refusal->number = frame.bytes[1];
     refusal->place = number_at(&frame, 2, 4);
     return refusal->number >= LENGTH && refusal->number <= REQUEST;
 }
 
-/* Reads the input, up to one byte more than a day may have; 0 when it cannot be read. */
+/* Reads the input, up to one byte more than may pass; 0 when it cannot be read. */
 static int read_input(const char *name, uint8_t *bytes, size_t *length)
 {
     FILE *file = fopen(name, "rb");
@@ -95,7 +96,10 @@ static void say_lines(const struct names *names, struct sheet *sheet, struct tex
     refusal->at_end = 1;
 }
 
-/* Says the whole input: the lines that passed, none where it is too long, and the refusal. */
+/*
+ * Says the whole input: the lines that passed, none where it is too long, and the refusal; of a
+ * sheet alone that passed, what is missing for a day.
+ */
 static void say_input(const struct names *names, struct sheet *sheet, struct text text,
                       struct refusal *refusal)
 {
@@ -105,6 +109,9 @@ static void say_input(const struct names *names, struct sheet *sheet, struct tex
     }
     if (refusal->number != OK) {
         say_refusal(names, sheet, refusal);
+    } else if (refusal->before == 0) {
+        printf("No tape follows the sheet, so there is no day to run yet. The shortest tape is the"
+               " one line F1000000000F.\n");
     }
 }
 
@@ -119,7 +126,7 @@ static int answer(const struct names *names, char **words, uint8_t *bytes, struc
         return fail(1, "the input could not be read");
     }
     if (!read_verdict(words[1], &refusal)) {
-        return fail(2, "the verdict is neither a line of a day nor a refusal");
+        return fail(2, "the verdict is neither a line of a day or a sheet nor a refusal");
     }
     say_input(names, sheet, text, &refusal);
     if (fflush(stdout) != 0 || ferror(stdout)) {

@@ -4,6 +4,7 @@ ghost use mathlib.Core.Path.{_≡_};
 ghost use Prim.Native.Nat.{_-_, _%_};
 ghost use Rattle.cases.specs.Digits.{valueOf, glyphOf, withDigit, numberOf, asForm, fitsForm};
 use answers::Answer;
+use tables::Counts;
 use tables::byte;
 
 // What becomes of a run: it goes on, it ends, or its case is not in the form.
@@ -71,6 +72,34 @@ pub fn four(line: &[u8], from: u8) -> u16
 {
     let at = from as usize;
     (value(line, at, at + 4) % 65536) as u16
+}
+
+// ---- counts
+
+// A role count in a byte, as tables have it; the form has eight digits. A larger one becomes 255, which is over the limit as well.
+fn in_byte(x: usize) -> u8 {
+    if x > 255 {
+        return 255;
+    }
+    x as u8
+}
+
+// A count of rows in two bytes, as tables have it; the form has eight digits. A larger one becomes 65,535, which is over the limit as well.
+fn in_two(x: usize) -> u16 {
+    if x > 65535 {
+        return 65535;
+    }
+    x as u16
+}
+
+// The three counts of a case, the first of whose digits is at `from`.
+pub fn counts_at(line: &[u8], from: u8) -> Counts {
+    let at = from as usize;
+    Counts {
+        roles: in_byte(value(line, at, at + 8)),
+        periodics: in_two(value(line, at + 9, at + 17)),
+        triggers: in_two(value(line, at + 18, at + 26)),
+    }
 }
 
 // ---- what is taken from the input
@@ -145,7 +174,7 @@ pub fn take_number(digits: u8) -> usize {
 }
 
 // One byte at `at`, if there is room; where the next one goes.
-fn store(bytes: &mut [u8], at: usize, b: u8) -> usize {
+pub fn store(bytes: &mut [u8], at: usize, b: u8) -> usize {
     if at < bytes.len() {
         bytes[at] = b;
         return at + 1;

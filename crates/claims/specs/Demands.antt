@@ -1,21 +1,23 @@
 -- READ THIS FIRST: what is proved of the box, demand by demand. Each theorem is stated with the definitions alone, and its proof cites the law that says it.
 -- The definitions are document 01's words. `theory` is its model: `Sheet` (rows, limits, due), `Instant` (the equation), `Graph` (loops), `Model` (the paper's runs), `Box` (a step). `reading`
--- (reader/Reading) is what the reader gives, `Outcome` (step/Outcome) what a step gives, `DayOutcome` and `Prints` (day_print/Day) what a day gives and prints. The contracts of the code are these same
--- definitions: `read_sheet` (sheet/src), `step` (step/src), `step_requests` (entry/src), `day` (days/src). None of the four asks anything of its caller. A few words that no crate below has are in
--- `Words`.
+-- (reader/Reading) is what the reader gives, `Outcome` (step/Outcome) what a step gives, `DayOutcome` and `Prints` (day_print/Day) what a day gives and prints, `WriteOutcome` (writer/Outcome) what the
+-- writer gives, `ResendOutcome` (resend/Resend) what a sheet gives that is read and written again. The contracts of the code are these same definitions: `read_sheet` (reader/src), `step` (step/src),
+-- `step_requests` (entry/src), `day` (day_print/src), `write_sheet` (writer/src), `resend` (resend/src). None of the six asks anything of its caller. A few words that no crate below has are in `Words`.
+-- First the three demands of the base; then reading, the day, the P table and what is shut out; then the customer's change requests, one after the other.
 -- Assumes nothing.
 use mathlib.Core.Path.{_≡_, refl, sym, ap, _∙_}
 use mathlib.Core.Logic.{_⊎_, inl, inr, ⊎-elim, _↔_}
 use mathlib.Core.List.{List, _++_}
 use Prim.Native.Nat.{ℕ, suc, _^_, _≤_, _<_}
-use lib.ListN.{length}
+use lib.ListN.{length, take, drop}
 use Rattle.tables.specs.declared.Counts.{Counts}
-use Rattle.theory.specs.Numbers.{EVENTS}
+use Rattle.theory.specs.Numbers.{EVENTS, LAST-INSTANT, SHEET-BYTES, WAITING-NUMBERS}
 use Rattle.theory.specs.Below.{ExactlyOne}
 use Rattle.theory.specs.Events.{Events, Roles}
 use Rattle.theory.specs.Sheet.{Sheet, GoodOrder}
 use Rattle.theory.specs.Instant.{Solves}
 use Rattle.theory.specs.Graph.{NoLoop, LoopAt}
+use Rattle.theory.specs.Used.{SameUsed}
 use Rattle.theory.specs.Model.{Stream}
 use Rattle.theory.specs.LoopTest.{PAIRS, loopPlace}
 use Rattle.theory.specs.Laws.Loop
@@ -27,6 +29,7 @@ use Rattle.answers.specs.declared.Verdict.{Verdict}
 use Rattle.answers.specs.declared.Verdict.the-variants.{Pass, Refused}
 use Rattle.answers.specs.Answers.{numberOf, answered, refusal}
 use Rattle.text.specs.Lines.{lines}
+use Rattle.tables.specs.Layout.{PERIODIC-TABLE, TRIGGER-TABLE}
 use Rattle.tables.specs.Buffers.{eventsOf, Narrow}
 use Rattle.tables.specs.Asked.{Asked}
 use Rattle.reader.specs.declared.Reading.the-variants.{Good, Refused}
@@ -35,31 +38,39 @@ use Rattle.sheet_acts.specs.Acts.{Progress}
 use Rattle.reader.specs.Out.{ReadOutcome, readOutcome, sheetRead}
 use Rattle.reader.specs.Reading.{reading}
 use Rattle.accepted.specs.Laws.Accepted
-use Rattle.line_by_line.specs.Lines.{linesIn, restIn, CutInto}
+use Rattle.line_by_line.specs.Lines.{linesIn, restIn, joined, CutInto}
 use Rattle.line_by_line.specs.ComesBack.{RefusedAt, ReadsWhole, periodicTable, triggerTable, countsOf, LengthsFit, framesIn, ComesBack}
 use Rattle.line_by_line.specs.Laws.Cut
 use Rattle.table_judge.specs.Judge.{judgeTables}
+use Rattle.table_judge.specs.Says.{Says}
+use Rattle.writer.specs.declared.Sent.{Sent}
+use Rattle.writer.specs.Outcome.{WriteOutcome}
+use Rattle.round_trips.specs.Order.{inTableOrder, PeriodicsFirst, OnlyItsRows}
 use Rattle.tables.specs.Lent.{Rules, sheetIn, Lent, rules}
 use Rattle.requests.specs.Requests.{AllFit}
 use Rattle.step.specs.Outcome.{Outcome}
-use Rattle.step.specs.Used.{SameRules}
+use Rattle.tables.specs.Used.{SameRules}
 use Rattle.step.specs.Laws.Exact
 use Rattle.step.specs.Laws.Used
 use Rattle.runs.specs.Runs.{Steps, GoesOn, IsPapers}
 use Rattle.runs.specs.Laws.{run-is-papers}
 use Rattle.day_split.specs.Split.{upToEnd, afterEnd, sheetPart, tapePart}
 use Rattle.day_split.specs.Laws.Parts
-use Rattle.day_input.specs.Opening.{opens, refused, opening}
+use Rattle.day_input.specs.Opening.{INPUT-BYTES, opens, refused, sheetReading, opening}
+use Rattle.resend.specs.declared.Resent.{Resent}
+use Rattle.resend.specs.Resend.{ResendOutcome}
 use Rattle.day_lines.specs.Lines.{OUTPUT-BYTES}
 use Rattle.day_print.specs.declared.Printed.{Printed}
 use Rattle.day_print.specs.Day.{Prints, DayOutcome, written}
 use Rattle.examples.specs.Example.{Said}
 use Rattle.examples.specs.Table.{table}
 use Rattle.examples.specs.Laws.Said.{all-say}
-use Rattle.claims.specs.Words.{ReadsInOrder, Ordered, SolvesFor, countIn, noPeriodics, noTriggers, looped, workedSheet, worked, asked}
+use Rattle.claims.specs.Words.{ReadsInOrder, Ordered, WriteLengths, SentBack, SolvesFor, countIn, noPeriodics, noTriggers, looped, workedSheet, worked, asked}
 use Rattle.claims.specs.Laws.Numbers
 use Rattle.claims.specs.Laws.Reader
 use Rattle.claims.specs.Laws.ComesBack as Back
+use Rattle.claims.specs.Laws.Writer
+use Rattle.claims.specs.Laws.RoundTrips
 use Rattle.claims.specs.Laws.Step
 use Rattle.claims.specs.Laws.There
 use Rattle.claims.specs.Laws.Day
@@ -270,3 +281,112 @@ count-is-the-solutions R q l a o S s = sym (ap countIn (Exact.step-solves R q l 
 -- in the worked input's first two minutes 0, then 2.
 pub counts-are : (tables : ℕ → Rules) (before after : ℕ → Lent) → Steps 2 worked tables asked before after → (countIn (eventsOf (after 0 .events)) ≡ 0) × (countIn (eventsOf (after 1 .events)) ≡ 2)
 counts-are = Shut.counts-are
+
+-- ==== REQUEST 1, SEND THE SHEET BACK OUT: what the writer answers, what it writes, and both round trips.
+
+-- Any lent tables of bytes with any counts, and any lent buffer, of whatever lengths, have exactly one outcome: an answer with the number of bytes written, and what the buffer holds then.
+pub writer-total : (R : Rules) (out : List ℕ) → Narrow 8 (R .tables .periodics) → Narrow 8 (R .tables .triggers) → ExactlyOne (λ (o : Sent × List ℕ). WriteOutcome R out (o .0) (o .1))
+writer-total = Writer.writer-total
+
+-- After a refusal nothing is written, and the buffer is what it was. (The tables are lent to be read only.)
+pub writer-keeps : (R : Rules) (out : List ℕ) (r : Sent) (out′ : List ℕ) (x : Refusal) → WriteOutcome R out r out′ → r .verdict ≡ Refused x → (r .length ≡ 0) × (out′ ≡ out)
+writer-keeps R out r out′ x o e = (ap (λ (s : Sent). s .length) (o .refused x e .0), o .refused x e .1)
+
+-- On OK what lies past the written length stays.
+pub writer-stays : (R : Rules) (out : List ℕ) (r : Sent) (out′ : List ℕ) → WriteOutcome R out r out′ → r .verdict ≡ Pass → (drop (r .length) out′ ≡ drop (r .length) out) × (length out′ ≡ length out)
+writer-stays = Writer.writer-stays
+
+-- Unused rows, and the event and condition places of a trigger past its counts, are neither tested nor written: tables that are the same in all that is used have the same outcome.
+pub writer-unused : (R R′ : Rules) → SameRules R R′ → (out : List ℕ) (r r′ : Sent) (out′ out″ : List ℕ) → WriteOutcome R out r out′ → WriteOutcome R′ out r′ out″ → (r ≡ r′) × (out′ ≡ out″)
+writer-unused = Writer.writer-used
+
+-- The answer is number 1 (LENGTH) and place 0 where a table or the buffer has not its exact length;
+pub writer-length : (R : Rules) (out : List ℕ) (r : Sent) (out′ : List ℕ) → WriteOutcome R out r out′ → ¬ WriteLengths R out → answered (r .verdict) ≡ record { number = 1; place = 0 }
+writer-length = Writer.writer-length
+
+-- else it is the one verdict that says what is so of the tables (`Says`, table_judge/Says): TOO MANY at 0, FIELD at 0 for the role count or at the first bad row, LOOP at the pair, or OK.
+pub writer-says : (R : Rules) (out : List ℕ) (r : Sent) (out′ : List ℕ) → WriteOutcome R out r out′ → WriteLengths R out → (v : Verdict) → Says (sheetIn R) v ↔ (v ≡ r .verdict)
+writer-says = Writer.writer-says
+
+-- That is a step's own answer, where the step meets neither LAST nor REQUEST: a step with the same tables, without requests, at an instant that is not above the last, with buffers of their lengths.
+pub writer-as-step : (R : Rules) (out : List ℕ) (r : Sent) (out′ : List ℕ) → WriteOutcome R out r out′ → WriteLengths R out
+    → (q : Asked) → q .count ≡ 0 → (l : Lent) → length (l .waiting) ≡ WAITING-NUMBERS → length (l .events) ≡ EVENTS → l .instant ≤ LAST-INSTANT
+    → (v : Verdict) (a : Lent) → Outcome R q l v a → r .verdict ≡ v
+writer-as-step = Writer.writer-as-step
+
+-- So it is number 8 and place k exactly when the lengths are right, the rows are in good order and their loop is at k,
+pub writer-loops : (R : Rules) (out : List ℕ) (r : Sent) (out′ : List ℕ) → WriteOutcome R out r out′
+    → (k : ℕ) → (answered (r .verdict) ≡ record { number = 8; place = k }) ↔ (WriteLengths R out × GoodOrder (sheetIn R) × LoopAt (sheetIn R) k)
+writer-loops = Writer.writer-loops
+
+-- and number 0 and place 0 exactly when the lengths are right, the rows are in good order and there is no loop.
+pub writer-ok : (R : Rules) (out : List ℕ) (r : Sent) (out′ : List ℕ) → WriteOutcome R out r out′
+    → (answered (r .verdict) ≡ record { number = 0; place = 0 }) ↔ (WriteLengths R out × GoodOrder (sheetIn R) × NoLoop (sheetIn R))
+writer-ok = Writer.writer-ok
+
+-- Every written sheet fits: it has at most 12,692 bytes.
+pub writer-fits : (R : Rules) (out : List ℕ) (r : Sent) (out′ : List ℕ) → WriteOutcome R out r out′ → r .verdict ≡ Pass → r .length ≤ 12692
+writer-fits = RoundTrips.written-short
+
+-- Its lines are in table order: the header, the periodic rows, the triggers, the end.
+pub writer-in-order : (R : Rules) (out : List ℕ) (r : Sent) (out′ : List ℕ) → WriteOutcome R out r out′ → r .verdict ≡ Pass → inTableOrder (linesIn (take (r .length) out′)) ≡ linesIn (take (r .length) out′)
+writer-in-order = RoundTrips.written-order
+
+-- READING WHAT WAS WRITTEN: the reader accepts the written bytes, and hands out the same counts, and tables that are the same in every used row and place, in the same order, and zero in every other.
+pub reads-what-was-written : (R : Rules) (out : List ℕ) (r : Sent) (out′ : List ℕ) → WriteOutcome R out r out′ → r .verdict ≡ Pass
+    → (p t : List ℕ) → length p ≡ PERIODIC-TABLE → length t ≡ TRIGGER-TABLE
+    → (R′ : Rules) × (reading (take (r .length) out′) p t ≡ readOutcome (Good (R′ .counts)) (R′ .tables .periodics) (R′ .tables .triggers)) × OnlyItsRows R R′
+reads-what-was-written = RoundTrips.reads-what-was-written
+
+-- WRITING WHAT WAS READ: every accepted sheet is sent back, as exactly one text (`SentBack`, Words): what the writer writes of what the reader handed out.
+pub sent-back : (sheet p t : List ℕ) → answered (verdictOf (reading sheet p t .answer)) ≡ record { number = 0; place = 0 } → ExactlyOne (SentBack sheet)
+sent-back = RoundTrips.sent-one
+
+-- It is the sheet's header line, its periodic lines in their order, its trigger lines in their order and its end line, each byte for byte as it stood;
+pub writes-what-was-read : (sheet text : List ℕ) → SentBack sheet text → text ≡ joined (inTableOrder (linesIn sheet))
+writes-what-was-read = RoundTrips.sent-order
+
+-- where all periodic frames stand before the triggers, it is the same bytes.
+pub writes-the-same : (sheet text : List ℕ) → SentBack sheet text → PeriodicsFirst (linesIn sheet) → text ≡ sheet
+writes-the-same = RoundTrips.sent-same
+
+-- THE READER IS COMPLETE: every sheet in good order without a loop, its rows being numbers, has bytes that the reader accepts as just that sheet.
+pub reader-complete : (sh : Sheet) → GoodOrder sh → NoLoop sh → (p t : List ℕ) → length p ≡ PERIODIC-TABLE → length t ≡ TRIGGER-TABLE
+    → (sheet : List ℕ) × (R : Rules) × (reading sheet p t ≡ readOutcome (Good (R .counts)) (R .tables .periodics) (R .tables .triggers)) × SameUsed sh (sheetIn R)
+reader-complete = RoundTrips.reader-complete
+
+-- READ AND WRITTEN AGAIN in one call, a sheet alone or before a tape: any input, with any lent buffer, has exactly one outcome.
+pub resend-total : (input out : List ℕ) → ExactlyOne (λ (o : Resent × List ℕ). ResendOutcome input out (o .0) (o .1))
+resend-total = RoundTrips.resend-total
+
+-- With an input and a buffer of their lengths the verdict is the reader's on the input's sheet;
+pub resend-verdict : (input out : List ℕ) (r : Resent) (out′ : List ℕ) → ResendOutcome input out r out′
+    → (length input ≤ INPUT-BYTES) × (length out ≡ SHEET-BYTES) → r .verdict ≡ verdictOf (sheetReading input .answer)
+resend-verdict = RoundTrips.resend-verdict
+
+-- else the answer is number 1 (LENGTH) and place 0.
+pub resend-length : (input out : List ℕ) (r : Resent) (out′ : List ℕ) → ResendOutcome input out r out′
+    → ¬ ((length input ≤ INPUT-BYTES) × (length out ≡ SHEET-BYTES)) → answered (r .verdict) ≡ record { number = 1; place = 0 }
+resend-length = RoundTrips.resend-length
+
+-- After a refusal nothing is written, and the buffer is what it was.
+pub resend-keeps : (input out : List ℕ) (r : Resent) (out′ : List ℕ) → ResendOutcome input out r out′ → (x : Refusal) → r .verdict ≡ Refused x → (r .length ≡ 0) × (out′ ≡ out)
+resend-keeps = RoundTrips.resend-keeps
+
+-- On OK the sheet's lines in table order, each as it stood, are written, and from the byte `from` on the input is all that follows its sheet;
+pub resend-writes : (input out : List ℕ) (r : Resent) (out′ : List ℕ) → ResendOutcome input out r out′ → r .verdict ≡ Pass
+    → (take (r .length) out′ ≡ joined (inTableOrder (linesIn (sheetPart input)))) × (drop (r .from) input ≡ tapePart input)
+resend-writes = RoundTrips.resend-writes
+
+-- what lies past the written length stays;
+pub resend-stays : (input out : List ℕ) (r : Resent) (out′ : List ℕ) → ResendOutcome input out r out′ → r .verdict ≡ Pass → (drop (r .length) out′ ≡ drop (r .length) out) × (length out′ ≡ length out)
+resend-stays = RoundTrips.resend-stays
+
+-- and where all periodic frames stand before the triggers, the sheet's own bytes are written.
+pub resend-same : (input out : List ℕ) (r : Resent) (out′ : List ℕ) → ResendOutcome input out r out′ → r .verdict ≡ Pass → PeriodicsFirst (linesIn (sheetPart input))
+    → take (r .length) out′ ≡ sheetPart input
+resend-same = RoundTrips.resend-same
+
+-- An example, and what shuts out a writer that writes nothing: of the worked sheet's tables the worked sheet's own bytes are written.
+pub worked-is-written : (out : List ℕ) → length out ≡ SHEET-BYTES → (r : Sent) (out′ : List ℕ) → WriteOutcome worked out r out′ → take (r .length) out′ ≡ workedSheet
+worked-is-written out whole r out′ o = RoundTrips.writes-what-was-read workedSheet noPeriodics noTriggers _ _ _ (Shut.is-worked .read) out whole r out′ o .1 ∙ RoundTrips.worked-in-order

@@ -61,6 +61,7 @@ use Rattle.reader.specs.declared.Reading.{Reading}
 use Rattle.reader.specs.Answer.{verdictOf}
 use Rattle.reader.specs.Out.{readOutcome}
 use Rattle.reader.specs.Reading.{reading}
+use Rattle.writer.specs.Outcome.{WriteOutcome}
 use Rattle.requests.specs.declared.Request.{Request}
 use Rattle.requests.specs.Asked.{requestOf}
 use Rattle.requests.specs.Requests.{fits, judgeRequests}
@@ -77,6 +78,7 @@ use Rattle.tape.specs.Tape.{tapeRead}
 use Rattle.day_split.specs.Parted.{parted}
 use Rattle.tape_batches.specs.Batch.{noneYet, rest, takes}
 use Rattle.day_input.specs.Planned.{opened, planned}
+use Rattle.resend.specs.Resend.{ResendOutcome}
 use Rattle.day_minute.specs.Minute.{MinuteOutcome}
 use Rattle.day_print.specs.Day.{DayOutcome}
 use Rattle.periodics.specs.Laws.Exact as periodics
@@ -87,6 +89,7 @@ use Rattle.reach.specs.Laws.Exact as reach
 use Rattle.edges.specs.Laws.Exact as edges
 use Rattle.sheet_acts.specs.Laws.Exact as sheet-acts
 use Rattle.reader.specs.Laws.Exact as reader
+use Rattle.writer.specs.Laws.Exact as writer
 use Rattle.requests.specs.Laws.Exact as requests
 use Rattle.instant.specs.Laws.Exact as act
 use Rattle.step.specs.Laws.Exact as Step
@@ -94,6 +97,7 @@ use Rattle.entry.specs.Laws.Exact as entry
 use Rattle.tape_frames.specs.Laws.Exact as tape-frames
 use Rattle.tape.specs.Laws.Exact as tape
 use Rattle.day_input.specs.Laws.Exact as day-input
+use Rattle.resend.specs.Laws as resend
 use Rattle.day_minute.specs.Laws.Exact as day-minute
 use Rattle.day_print.specs.Laws.Exact as day-print
 
@@ -415,6 +419,12 @@ reader-verdict-of reading r r′ = exact
 pub reader-read-sheet : (sheet periodics triggers : List ℕ) → Exact₃ (λ r periodics′ triggers′. readOutcome r periodics′ triggers′ ≡ reading sheet periodics triggers)
 reader-read-sheet = reader.read-sheet-exact
 
+-- ---- writer
+
+-- writer::write_sheet
+pub writer-write-sheet : (counts : Counts) (periodics triggers out : List ℕ) → Exact₂ (λ r out′. WriteOutcome (rules counts periodics triggers) out r out′)
+writer-write-sheet counts periodics triggers out = writer.write-exact (rules counts periodics triggers) out
+
 -- ---- masks
 
 -- masks::number
@@ -584,6 +594,12 @@ day-split-split input r r′ h h′ = exact (h .0) (h′ .0)
 pub day-input-open : (input : List ℕ) → Exact₃ (λ r periodics′ triggers′. opened r periodics′ triggers′ ≡ planned input)
 day-input-open = day-input.open-exact
 
+-- ---- resend
+
+-- resend::resend
+pub resend-resend : (input out : List ℕ) → Exact₂ (λ r out′. ResendOutcome input out r out′)
+resend-resend = resend.resend-exact
+
 -- ---- day_minute
 
 -- day_minute::day_minute
@@ -612,9 +628,9 @@ day-print-day = day-print.day-exact
 -- instant::act asks `Levels (sheetOf roleCount (counts .periodics) (counts .triggers) periodics triggers) (byteAt levels)`: likewise.
 
 -- ==== WHAT SOME ASK. These are public only because a crate ends there: each asks something of its callers, the functions named, which have shown it. Each is exact as it stands above,
--- whatever it is called with. Whoever uses the box calls reader::read_sheet, step::step, entry::step_requests or day_print::day, which ask nothing.
+-- whatever it is called with. Whoever uses the box calls reader::read_sheet, writer::write_sheet, step::step, entry::step_requests, resend::resend or day_print::day, which ask nothing.
 -- tables::copy_in asks that the row fits: sheet_acts::put_periodic, sheet_acts::put_trigger, reader::copy_out.
--- prints::put_line asks that the line fits: printed_frames::refusal_line, day_print::run.
+-- prints::put_line asks that the line fits: printed_frames::refusal_line, writer::put, day_print::run.
 -- keys::chains asks for at most 256 triggers: solver::by_keys.
 -- keys::next asks for a key below 257: solver::by_keys.
 -- turns::settle asks for an events buffer of 128 numbers, a key that is not 0, and chained triggers: solver::by_keys.

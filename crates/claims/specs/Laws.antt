@@ -2,6 +2,8 @@
 pub mod Numbers
 pub mod Reader
 pub mod ComesBack
+pub mod Writer
+pub mod RoundTrips
 pub mod Step
 pub mod There
 pub mod Day

@@ -1,18 +1,19 @@
--- Words of the demands that no crate below has as one: a sheet that reads in good order to its end, a step that is in order but for loops and requests, the equation of what is lent, the count of
--- events, and the examples that shut wrong boxes out.
+-- Words of the demands that no crate below has as one: a sheet that reads in good order to its end, a step that is in order but for loops and requests, what is lent to the writer, a sheet that is read and
+-- written, the equation of what is lent, the count of events, and the examples that shut wrong boxes out.
 -- Assumes nothing.
 use mathlib.Core.Path.{_≡_}
 use mathlib.Core.Bool.{true, cond}
 use mathlib.Core.List.{List, [], _∷_}
 use Prim.Native.Nat.{ℕ, _≤_}
 use lib.Dec.{eqb}
-use lib.ListN.{length, getD, replicate}
-use Rattle.theory.specs.Numbers.{EVENTS, LAST-INSTANT, REQUESTS, WAITING-NUMBERS}
+use lib.ListN.{length, getD, take, replicate}
+use Rattle.theory.specs.Numbers.{EVENTS, LAST-INSTANT, REQUESTS, SHEET-BYTES, WAITING-NUMBERS}
 use Rattle.theory.specs.Below.{countBelow}
 use Rattle.theory.specs.Events.{Events, nonblocked}
 use Rattle.theory.specs.Sheet.{GoodOrder}
 use Rattle.theory.specs.Instant.{Solves}
 use Rattle.theory.specs.Box.{givens}
+use Rattle.answers.specs.declared.Verdict.the-variants.{Pass}
 use Rattle.text.specs.Lines.{lines}
 use Rattle.tables.specs.Layout.{PERIODIC-TABLE, TRIGGER-TABLE, padded}
 use Rattle.tables.specs.Buffers.{rolesOf}
@@ -20,7 +21,11 @@ use Rattle.tables.specs.Asked.{Request, Asked, asks}
 use Rattle.line_readers.specs.Walks.{goes}
 use Rattle.sheet_acts.specs.Acts.{Progress}
 use Rattle.reader.specs.Lines.{reads}
-use Rattle.reader.specs.Reading.{start, sheetLengthsFit}
+use Rattle.reader.specs.declared.Reading.the-variants.{Good}
+use Rattle.reader.specs.Out.{readOutcome}
+use Rattle.reader.specs.Reading.{start, sheetLengthsFit, reading}
+use Rattle.writer.specs.declared.Sent.{Sent}
+use Rattle.writer.specs.Outcome.{WriteOutcome}
 use Rattle.tables.specs.Lent.{Rules, rules, sheetIn, Lent, stateIn}
 use Rattle.day_split.specs.Split.{sheetPart}
 use Rattle.examples.specs.Written.{Requested}
@@ -41,6 +46,25 @@ pub record Ordered (R : Rules) (q : Asked) (l : Lent) : Type 0 where
   pub instant : l .instant ≤ LAST-INSTANT
   pub requests : q .count ≤ REQUESTS
   pub rows : GoodOrder (sheetIn R)
+
+-- WHAT IS LENT TO THE WRITER has its exact lengths: both tables, and the buffer.
+pub record WriteLengths (R : Rules) (out : List ℕ) : Type 0 where
+  pub periodics : length (R .tables .periodics) ≡ PERIODIC-TABLE
+  pub triggers : length (R .tables .triggers) ≡ TRIGGER-TABLE
+  pub buffer : length out ≡ SHEET-BYTES
+
+-- SENT BACK: `text` is what the writer writes, into any buffer, of what the reader handed out of a sheet that it accepted.
+pub record SentBack (sheet text : List ℕ) : Type 0 where
+  pub lent-periodics : List ℕ
+  pub lent-triggers : List ℕ
+  pub handed : Rules
+  pub read : reading sheet lent-periodics lent-triggers ≡ readOutcome (Good (handed .counts)) (handed .tables .periodics) (handed .tables .triggers)
+  pub before : List ℕ
+  pub sent : Sent
+  pub after : List ℕ
+  pub written : WriteOutcome handed before sent after
+  pub passed : sent .verdict ≡ Pass
+  pub bytes : text ≡ take (sent .length) after
 
 -- S solves the equation of what is lent: of its rows, of the roles before the instant, and of the givens.
 abbrev pub SolvesFor : Rules → Asked → Lent → Events → Type 0

@@ -11,7 +11,7 @@ use tables::Counts;
 use tape::Taken;
 
 // An input has at most so many bytes.
-const INPUT_BYTES: usize = 65536;
+pub const INPUT_BYTES: usize = 65536;
 
 // What an input opens: the counts of its sheet, the byte at which its tape begins, and the last instant.
 pub struct Plan {

@@ -9,7 +9,7 @@ use kinds::TRIGGER;
 use theory::ROLES;
 
 // The version of a header.
-const VERSION: u8 = 1;
+pub const VERSION: u8 = 1;
 
 // The header's fields are within their limits.
 fn header_fits(version: u8, roles: u8) -> bool

@@ -2,3 +2,4 @@
 pub mod Lengths
 pub mod Pasted
 pub mod Reads
+pub mod Back

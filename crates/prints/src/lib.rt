@@ -65,7 +65,7 @@ fn put_hex(out: &mut [u8], at: usize, frame: &[u8])
     }
 }
 
-// A frame's line over the buffer's bytes from `at` on. (For the day alone, which has shown that it fits.)
+// A frame's line over the buffer's bytes from `at` on. (For the day and the writer, which have shown that it fits.)
 pub fn put_line(out: &mut [u8], at: usize, frame: &[u8])
     requires { ⌜ at + (2 * length (now frame) + 3) ≤ length (now out) ⌝ }
     ensures { λ _. ⌜

@@ -25,7 +25,7 @@ use tables::PERIODIC_TABLE;
 use tables::TRIGGER_TABLE;
 
 // A sheet has at most so many bytes.
-const SHEET_BYTES: usize = 16384;
+pub const SHEET_BYTES: usize = 16384;
 
 // The answer of the reader: the counts of what was read, or the refusal.
 pub enum Reading {

@@ -12,7 +12,7 @@ use Rattle.tables.specs.Buffers.{rolesOf, eventsOf}
 use Rattle.tables.specs.Asked.{Asked, asks}
 use Rattle.tables.specs.Lent.{Rules, sheetIn, Lent}
 use Rattle.step.specs.Outcome.{Outcome}
-use Rattle.step.specs.Used.{SameRules}
+use Rattle.tables.specs.Used.{SameRules}
 
 -- instant 0, no roles, all zeros; an events buffer may hold anything
 pub record FreshLent (l : Lent) : Type 0 where

@@ -1,4 +1,5 @@
--- What is lent to a step, but for its requests (`Asked`). To be read: the counts and the tables (`Rules`). To be changed: the state and the events buffer (`Lent`). Document 01, 'What comes back'.
+-- What is lent to a step, but for its requests (`Asked`). To be read: the counts and the tables (`Rules`), which the writer is lent too. To be changed: the state and the events buffer (`Lent`). Document 01,
+-- 'What comes back'.
 -- Assumes nothing.
 use mathlib.Core.List.{List}
 use Prim.Native.Nat.{ℕ}
@@ -8,7 +9,7 @@ use Rattle.tables.specs.declared.Counts.{Counts}
 use Rattle.tables.specs.Layout.{sheetOf}
 use Rattle.tables.specs.Buffers.{rolesOf, waitingOf}
 
--- the two tables, which the reader writes and a step reads
+-- the two tables, which the reader fills, and a step and the writer read
 pub record Tables : Type 0 where
   pub periodics : List ℕ
   pub triggers : List ℕ

@@ -1,4 +1,4 @@
--- When two lent tables are the same in all that is used (document 01, 'What comes back'): the step ignores unused rows, and the event and condition places of a trigger past its counts.
+-- When two lent tables are the same in all that is used (document 01, 'What comes back'): the step ignores unused rows, and the event and condition places of a trigger past its counts, and so does the writer.
 -- Assumes nothing.
 use mathlib.Core.Path.{_≡_}
 use mathlib.Core.List.{List}
@@ -6,6 +6,7 @@ use Prim.Native.Nat.{ℕ, _+_, _*_, _≤_, _<_}
 use lib.ListN.{length}
 use Rattle.theory.specs.Sheet.{Trigger}
 use Rattle.tables.specs.Layout.{PERIODIC-BYTES, TRIGGER-BYTES, byteAt, triggerAt}
+use Rattle.tables.specs.Lent.{Rules}
 
 -- The same periodic table: its length, and the bytes of its first n rows.
 pub record SamePeriodics (n : ℕ) (p p′ : List ℕ) : Type 0 where
@@ -20,3 +21,9 @@ UsedByte g k = (2 ≤ k → k < 6 → k < 2 + g .eventCount) × (6 ≤ k → k <
 pub record SameTriggers (n : ℕ) (t t′ : List ℕ) : Type 0 where
   pub size : length t ≡ length t′
   pub bytes : (i k : ℕ) → i < n → k < TRIGGER-BYTES → UsedByte (triggerAt t i) k → byteAt t (TRIGGER-BYTES * i + k) ≡ byteAt t′ (TRIGGER-BYTES * i + k)
+
+-- THE SAME SHEET: the same counts, and tables that are the same in all that is used. What stands in unused rows, and in the places of a trigger past its counts, is anything.
+pub record SameRules (R R′ : Rules) : Type 0 where
+  pub counts : R .counts ≡ R′ .counts
+  pub periodics : SamePeriodics (R .counts .periodics) (R .tables .periodics) (R′ .tables .periodics)
+  pub triggers : SameTriggers (R .counts .triggers) (R .tables .triggers) (R′ .tables .triggers)

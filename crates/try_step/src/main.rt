@@ -86,29 +86,9 @@ fn print_result(
 //     PPPP TTTT WWWW EEEE RRRRRRRR CCCCCCCC DDDDDDDD IIIIIIII SSSSSSSSSSSSSSSS FFFF GGGG HHHH KKKK QQQQ
 //     0    5    10   15   20       29       38       47       56               73   78   83   88   93
 
-// A role count in a byte, as a step takes it; the form has eight digits. A larger one becomes 255, which is over the limit as well.
-fn in_byte(x: usize) -> u8 {
-    if x > 255 {
-        return 255;
-    }
-    x as u8
-}
-
-// A count of rows in two bytes, as a step takes it; the form has eight digits. A larger one becomes 65,535, which is over the limit as well.
-fn in_two(x: usize) -> u16 {
-    if x > 65535 {
-        return 65535;
-    }
-    x as u16
-}
-
 // The counts, as a step takes them.
 fn counts_of(head: &[u8]) -> Counts {
-    Counts {
-        roles: in_byte(value(head, 20, 28)),
-        periodics: in_two(value(head, 29, 37)),
-        triggers: in_two(value(head, 38, 46)),
-    }
+    cases::counts_at(head, 20)
 }
 
 // Takes one step, and prints its result.

@@ -78,7 +78,7 @@ pub checked-check : (f : List ℕ) → checked (f ++ (checkOf f ∷ [])) ≡ tru
 unfolding checked checkOf
 checked-check f = eq-eqb (sum (f ++ (checkOf f ∷ [])) % 256) 0 (omega (arith, sum-append f (checkOf f ∷ [])))
 
-bytes-check : (f : List ℕ) → Bytes f → Bytes (f ++ (checkOf f ∷ []))
+pub bytes-check : (f : List ℕ) → Bytes f → Bytes (f ++ (checkOf f ∷ []))
 unfolding checkOf
 bytes-check f h = bytes-append f (checkOf f ∷ []) h (bytes-cons (checkOf f) [] (omega arith) bytes-none)
 

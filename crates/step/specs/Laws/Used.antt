@@ -31,7 +31,7 @@ use Rattle.table_judge.specs.Laws.{rows-say}
 use Rattle.table_judge.specs.Laws.Answer.{tables-refused, tables-loop}
 use Rattle.step_tests.specs.Order.{exactLengths}
 use Rattle.step.specs.Outcome.{lengthsFit, judgeStep, Outcome}
-use Rattle.step.specs.Used.{SameRules}
+use Rattle.tables.specs.Used.{SameRules}
 use Rattle.step.specs.Laws.Exact.{accepted, step-exact}
 
 -- every sheet is the same as itself
@@ -103,7 +103,7 @@ module _ (R R′ : Rules) (s : SameRules R R′) where
       let u : SameUsed sh sh′ = sheets-used good in
       ap (λ (k : ℕ). cond (ltb k PAIRS) (refuse Loop k) Pass) (loop-place-used sh sh′ (u .trigger-count) (u .triggers))
 
-  tables-used : judgeTables sh ≡ judgeTables sh′
+  pub tables-used : judgeTables sh ≡ judgeTables sh′
   tables-used =
       ⊎-elim
       (λ (x : (judgeRows sh ≡ Pass) × GoodOrder sh). tables-loop sh (x .0) ∙ (loops-used (x .1) ∙ sym (tables-loop sh′ (sym rows-used ∙ x .0))))

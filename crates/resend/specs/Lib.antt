@@ -1,0 +1,3 @@
+-- A sheet read and written again.
+pub mod Resend
+pub mod Laws
