@@ -157,9 +157,6 @@ module _ (sheet p t : List ℕ) (n : Counts) (p′ t′ : List ℕ) (e : reading
     pub writes-what-was-read : (answered (r .verdict) ≡ record { number = 0; place = 0 }) × (take (r .length) out′ ≡ joined (inTableOrder (linesIn sheet)))
     writes-what-was-read = (ap answered passed, front-order out r out′ (o .passed passed))
 
-    pub same-bytes : PeriodicsFirst (linesIn sheet) → take (r .length) out′ ≡ sheet
-    same-bytes first = writes-what-was-read .1 ∙ order-same first
-
 -- ---- the same, without a table
 
 pub sent-order : (sheet text : List ℕ) → SentBack sheet text → text ≡ joined (inTableOrder (linesIn sheet))
