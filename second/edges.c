@@ -193,7 +193,7 @@ static void set_trigger(struct dice *dice, struct trigger *row, const struct edg
 }
 
 /* The number of a row among so many. */
-static uint32_t row_at(struct dice *dice, enum where where, uint32_t count)
+uint32_t row_at(struct dice *dice, enum where where, uint32_t count)
 {
     if (where == FIRST_ROW) {
         return 0;

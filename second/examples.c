@@ -17,6 +17,15 @@ void check(const char *name, int right)
     }
 }
 
+/* The same with the words that all the examples of a table begin with. */
+void check_named(const char *before, const char *name, int right)
+{
+    char whole[200];
+
+    sprintf(whole, "%.90s%.100s", before, name);
+    check(whole, right);
+}
+
 /*
  * Puts frames, given in hexadecimal without their checks and parted by blanks, as lines with
  * checks.
@@ -86,7 +95,7 @@ void bench_frames(struct bench *bench, const char *frames)
 }
 
 /* Reads a sheet, given as it stands. */
-static struct answer read_of(const char *sheet)
+struct answer read_of(const char *sheet)
 {
     static struct bench bench;
 
@@ -95,7 +104,7 @@ static struct answer read_of(const char *sheet)
 }
 
 /* Reads a sheet, given as frames. */
-static struct answer read_frames(const char *frames)
+struct answer read_frames(const char *frames)
 {
     static struct bench bench;
 
@@ -164,16 +173,17 @@ int gives(program *run, const char *input, const char *output)
 }
 
 /* Runs a program on frames and expects one refusal. */
-int refuses(program *run, const char *frames, unsigned number, uint32_t place)
+int refuses(program *run, const char *frames, struct answer refusal)
 {
     static struct text in, out;
-    char wanted[20];
-    unsigned sum = 0xE0 + number, i;
+    char wanted[40];
+    unsigned sum = 0xE0 + refusal.number, i;
 
     for (i = 0; i < 4; i++) {
-        sum += (place >> (8 * i)) & 255;
+        sum += ((refusal.place >> (8 * i)) & 255) + ((refusal.column >> (8 * i)) & 255);
     }
-    sprintf(wanted, "E0%02X%08lX%02X\n", number, (unsigned long)place, (256 - sum % 256) % 256);
+    sprintf(wanted, "E0%02X%08lX%08lX%02X\n", refusal.number, (unsigned long)refusal.place,
+            (unsigned long)refusal.column, (256 - sum % 256) % 256);
     text_clear(&in);
     put_frames(&in, frames);
     run(in.bytes, in.length, &out);
@@ -608,27 +618,28 @@ static const struct {
     const char *frames;
     unsigned number;
     uint32_t place;
+    uint32_t column;
 } days[] = {
-    {"day: an empty input is KIND at line 1", "", KIND, 1},
-    {"day: an empty tape is KIND at the line after the sheet", "100101 F0000000", KIND, 3},
+    {"day: an empty input is KIND at line 1", "", KIND, 1, 0},
+    {"day: an empty tape is KIND at the line after the sheet", "100101 F0000000", KIND, 3, 0},
     {"day: a tape without F1 is KIND at the line after the last",
-     "100101 F0000000 4000000000010000", KIND, 4},
-    {"day: a line after F1 is KIND", "100101 F0000000 F100000000 F100000000", KIND, 4},
-    {"day: a sheet frame in the tape is KIND", "100101 F0000000 F0000000 F100000000", KIND, 3},
+     "100101 F0000000 4000000000010000", KIND, 4, 0},
+    {"day: a line after F1 is KIND", "100101 F0000000 F100000000 F100000000", KIND, 4, 0},
+    {"day: a sheet frame in the tape is KIND", "100101 F0000000 F0000000 F100000000", KIND, 3, 0},
     {"day: the sheet is tested before the tape, LOOP included",
-     "100101 30010001000000 F0000001 FF", LOOP, 0},
+     "100101 30010001000000 F0000001 FF", LOOP, 0, 0},
     {"day: an instant below the one before is FIELD",
-     "100101 F0000000 4000000002010000 4000000001010000 F100000005", FIELD, 4},
+     "100101 F0000000 4000000002010000 4000000001010000 F100000005", FIELD, 4, 3},
     {"day: a lower instant comes before a wrong request",
-     "100101 F0000000 4000000002010000 4000000001021000 F100000005", FIELD, 4},
+     "100101 F0000000 4000000002010000 4000000001021000 F100000005", FIELD, 4, 3},
     {"day: an event of twice the role count is REQUEST at its line",
-     "100101 F0000000 4000000000010000 4000000000020000 F100000005", REQUEST, 4},
-    {"day: last instant 10,081 is FIELD", "100101 F0000000 F100002761", FIELD, 3},
+     "100101 F0000000 4000000000010000 4000000000020000 F100000005", REQUEST, 4, 0},
+    {"day: last instant 10,081 is FIELD", "100101 F0000000 F100002761", FIELD, 3, 3},
     {"day: last below the last request's instant is FIELD",
-     "100101 F0000000 4000000002010000 F100000001", FIELD, 4},
+     "100101 F0000000 4000000002010000 F100000001", FIELD, 4, 3},
     {"day: a request after 10,080 is FIELD at F1",
-     "100101 F0000000 4000002761010000 F100002760", FIELD, 4},
-    {"day: without a line beginning F0 all is sheet", "100101 F100000000", KIND, 2}
+     "100101 F0000000 4000002761010000 F100002760", FIELD, 4, 3},
+    {"day: without a line beginning F0 all is sheet", "100101 F100000000", KIND, 2, 0}
 };
 
 /* The days of the table above. */
@@ -637,7 +648,9 @@ static void table_of_days(void)
     unsigned i;
 
     for (i = 0; i < sizeof days / sizeof days[0]; i++) {
-        check(days[i].name, refuses(day, days[i].frames, days[i].number, days[i].place));
+        check(days[i].name,
+              refuses(day, days[i].frames,
+                      answer_at(days[i].number, days[i].place, days[i].column)));
     }
 }
 
@@ -658,8 +671,8 @@ static void tape_of_many(void)
         check(count == 32 ? "day: 32 requests of one instant are accepted"
                           : "day: the 33rd request of one instant is TOO MANY at its line",
               count == 32 ? out.length == 31 && out.bytes[0] == '5'
-                          : out.length == 15 && memcmp(out.bytes, "E006000000", 10) == 0
-                            && memcmp(out.bytes + 10, "23", 2) == 0);
+                          : out.length == 23
+                            && memcmp(out.bytes, "E0060000002300000000F7\n", 23) == 0);
     }
 }
 
@@ -736,6 +749,8 @@ int command_examples(void)
     roles_above();
     step_order();
     writer_examples();
+    column_examples();
+    line_examples();
     printf("%u passed, %u failed\n", passed, failed);
     return failed == 0 ? 0 : 1;
 }

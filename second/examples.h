@@ -25,14 +25,21 @@ extern const char worked_input[];
 
 /* examples.c */
 void check(const char *name, int right);
+void check_named(const char *before, const char *name, int right);
 void put_frames(struct text *out, const char *frames);
 int is(struct answer found, unsigned number, uint32_t place);
 void bench_bytes(struct bench *bench, const uint8_t *bytes, size_t length);
 void bench_frames(struct bench *bench, const char *frames);
+struct answer read_of(const char *sheet);
+struct answer read_frames(const char *frames);
 int gives(program *run, const char *input, const char *output);
-int refuses(program *run, const char *frames, unsigned number, uint32_t place);
+int refuses(program *run, const char *frames, struct answer refusal);
 
 /* exwrites.c: the examples of document 02 [1] */
 void writer_examples(void);
+
+/* excolumns.c, exlines.c: the examples of document 02 [2] */
+void column_examples(void);
+void line_examples(void);
 
 #endif

@@ -189,10 +189,11 @@ static void resent(void)
                 "30010001040600C4\nF00100020D\n40g\n\nF0",
                 "100103EC\n2000000000FFFFFFFF0018000100010104C5\n3001010402030502BE\n"
                 "30010001040600C4\nF00100020D\n40g\n\nF0"));
-    check("[1] sheet: an empty input is refused, KIND at line 1", refuses(resend, "", KIND, 1));
-    check("[1] sheet: a loop is refused", refuses(resend, "100101 30010001000000 F0000001", LOOP, 0));
+    check("[1] sheet: an empty input is refused, KIND at line 1", refuses(resend, "", answer(KIND, 1)));
+    check("[1] sheet: a loop is refused",
+          refuses(resend, "100101 30010001000000 F0000001", answer(LOOP, 0)));
     check("[1] sheet: without a line beginning F0 all is sheet",
-          refuses(resend, "100101 F100000000", KIND, 2));
+          refuses(resend, "100101 F100000000", answer(KIND, 2)));
     text_clear(&in);
     put_frames(&in, "100101 F0000000");
     while (in.length < INPUT_MOST) {
@@ -204,7 +205,7 @@ static void resent(void)
     text_byte(&in, 'x');
     resend(in.bytes, in.length, &out);
     check("[1] sheet: one of 65,537 is LENGTH",
-          out.length == 15 && memcmp(out.bytes, "E00100000000", 12) == 0);
+          out.length == 23 && memcmp(out.bytes, "E00100000000000000001F\n", 23) == 0);
 }
 
 /* The examples of document 02 [1]. */

@@ -46,6 +46,16 @@ void form_byte(unsigned byte, const char *what)
     }
 }
 
+/* Takes so many bytes of any values. */
+void form_bytes(uint8_t *to, uint32_t count, const char *what)
+{
+    uint32_t i;
+
+    for (i = 0; i < count; i++) {
+        to[i] = (uint8_t)form_raw(what);
+    }
+}
+
 /* Takes a number of fixed width in upper-case hexadecimal, at most "most". */
 uint64_t form_hex(unsigned digits, uint64_t most, const char *what)
 {

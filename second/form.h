@@ -1,4 +1,4 @@
-/* The neutral form of the commands read, step and write; FORMAT.md says it in words. */
+/* The neutral form of the commands read, step, write and line; FORMAT.md says it in words. */
 #ifndef FORM_H
 #define FORM_H
 
@@ -11,7 +11,8 @@ enum {
     FORM_WAITING_MOST = 0x2000,
     FORM_EVENTS_MOST = 0x0100,
     FORM_REQUESTS_MOST = 0x0400,
-    FORM_BUFFER_MOST = 0x8000
+    FORM_BUFFER_MOST = 0x8000,
+    FORM_LINE_MOST = 0x18000
 };
 
 /* The two lent tables of a case, their counts, and how many rows of them are given. */
@@ -55,6 +56,14 @@ struct read_case {
     uint8_t fill;
 };
 
+/* A case of the command line, without its sheet and its tape. */
+struct line_case {
+    uint32_t sheet_length;
+    uint32_t tape_length;
+    uint8_t number;
+    uint32_t place;
+};
+
 /* tableform.c */
 void put_next(struct text *out, uint64_t value, unsigned digits);
 void put_answer(struct text *out, struct answer found);
@@ -71,10 +80,12 @@ void take_rows(struct table_case *to);
 void take_tables(struct table_case *to);
 struct tables tables_given(const struct table_case *given);
 
-/* readform.c, stepform.c, writeform.c */
+/* readform.c, stepform.c, writeform.c, lineform.c */
 void put_read_case(struct text *out, const struct read_case *from, const uint8_t *sheet);
 int all_bytes(const void *from, size_t length, uint8_t value);
 void put_step_case(struct text *out, const struct step_case *from);
 void put_write_case(struct text *out, const struct write_case *from);
+void put_line_case(struct text *out, const struct line_case *from, const uint8_t *sheet,
+                   const uint8_t *tape);
 
 #endif

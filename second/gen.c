@@ -333,7 +333,7 @@ static void junk(struct dice *dice, uint64_t seed, struct text *out)
 /* --- single sheets --- */
 
 /* Makes a read case of the page that a maker made, with its own lengths and fill. */
-static void wrap_read(struct dice *dice, struct text *out, const struct text *sheet)
+void wrap_read(struct dice *dice, struct text *out, const struct text *sheet)
 {
     struct read_case made;
 
@@ -598,6 +598,9 @@ static const struct kind kinds[] = {
     {"day-size", "day", "inputs near 65,536 bytes, sheets near 16,384", day_size},
     {"day-long", "day", "up to 10,081 instants", day_long},
     {"day-junk", "day", "anything", junk},
+    {"day-frame", "day", "one line of the tape typed wrongly, at each column", day_frame},
+    {"day-wrong", "day", "one field of the tape outside its limits, in each line", day_wrong},
+    {"day-faults", "day", "several faults in one line of the tape", day_faults},
     {"read-good", "read", "good sheets of every shape", read_good},
     {"read-dense", "read", "near every limit", read_dense},
     {"read-loop", "read", "cycles of 1 to 128 events and their neighbours", read_loop},
@@ -608,6 +611,9 @@ static const struct kind kinds[] = {
     {"read-mend", "read", "bytes and lines damaged, checks put right", read_mend},
     {"read-length", "read", "sheets near 16,384 bytes, tables of other lengths", read_length},
     {"read-junk", "read", "anything", read_junk},
+    {"read-frame", "read", "one line typed wrongly, at each column", read_frame},
+    {"read-wrong", "read", "one field outside its limits, in each line and place", read_wrong},
+    {"read-faults", "read", "several faults in one line", read_faults},
     {"step-good", "step", "good steps from arbitrary states", step_good},
     {"step-dense", "step", "near every limit", step_dense},
     {"step-chain", "step", "deep chains, + rings, ladders of - edges", step_chain},
@@ -642,7 +648,15 @@ static const struct kind kinds[] = {
     {"sheet-lines", "sheet", "odd, missing and doubled lines of the sheet", day_lines},
     {"sheet-odd", "sheet", "empty, endless, not split, doubled, far down", day_odd},
     {"sheet-size", "sheet", "inputs near 65,536 bytes, sheets near 16,384", day_size},
-    {"sheet-junk", "sheet", "anything", junk}
+    {"sheet-junk", "sheet", "anything", junk},
+    {"sheet-frame", "sheet", "one line typed wrongly, at each column", sheet_frame},
+    {"sheet-wrong", "sheet", "one field outside its limits, in each line and place", sheet_wrong},
+    {"sheet-faults", "sheet", "several faults in one line", sheet_faults},
+    {"line-place", "line", "a few lines of anything, each line and each answer", line_place},
+    {"line-odd", "line", "empty, only 0A's, no final 0A: each such sheet with each tape", line_odd},
+    {"line-far", "line", "many lines, places near their number and far past them", line_far},
+    {"line-size", "line", "long lines, seldom up to 98,304 bytes each", line_size},
+    {"line-day", "line", "what the day program answers of sheets and tapes with faults", line_day}
 };
 
 enum { KINDS = sizeof kinds / sizeof kinds[0] };

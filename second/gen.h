@@ -34,7 +34,8 @@ enum shape { MIXED, ORDERED, CHAIN, RING, LADDER, TANGLE };
 enum spot {
     VERSION, ROLES, BEGIN, END, PERIOD, FIRST, RUN, ROW_EVENT, ROW_PRIORITY,
     BODY_COUNT, CONDITION_COUNT, BODY, CONDITION, HEAD, HEAD_PRIORITY, DELAY,
-    PERIODIC_ROWS, TRIGGER_ROWS, END_PERIODIC, END_TRIGGER
+    PERIODIC_ROWS, TRIGGER_ROWS, END_PERIODIC, END_TRIGGER,
+    INSTANT, ASKED_EVENT, ASKED_PRIORITY, ASKED_DELAY, LAST_INSTANT
 };
 
 /* An edge: a field and its value, counted from the field's own base when "from" is 1. */
@@ -46,6 +47,9 @@ struct edge {
 
 /* The row in which an edge is set. */
 enum where { FIRST_ROW, MIDDLE_ROW, LAST_ROW, ANY_ROW };
+
+/* The sorts of lines, those of a sheet and then those of a tape. */
+enum sort { HEADER_LINE, PERIODIC_LINE, TRIGGER_LINE, END_LINE, REQUEST_LINE, LAST_LINE };
 
 /* Puts an input for one seed at the end of a page. */
 typedef void maker(struct dice *dice, uint64_t seed, struct text *out);
@@ -97,6 +101,7 @@ uint32_t row_edges(void);
 uint32_t text_edges(void);
 uint32_t tape_edges(void);
 int of_periodic(const struct edge *edge);
+uint32_t row_at(struct dice *dice, enum where where, uint32_t count);
 void set_edge(struct dice *dice, struct book *book, const struct edge *edge, enum where where);
 void row_edge(struct dice *dice, struct book *book, uint32_t which);
 void text_edge(struct dice *dice, struct text *text, const struct book *book, uint32_t which);
@@ -140,6 +145,27 @@ void accepted_book(struct dice *dice, struct book *book);
 void write_case_of(struct dice *dice, struct write_case *to, const struct book *book);
 maker write_good, write_dense, write_rows, write_field, write_wrong, write_unused, write_length;
 maker write_count, write_loop, write_tangle, write_spoils;
+
+/* gen.c */
+void wrap_read(struct dice *dice, struct text *out, const struct text *sheet);
+
+/* faults.c: lines with fields outside their limits */
+uint32_t wrong_fields(enum sort sort);
+void set_wrong(struct dice *dice, struct text *text, uint32_t line, enum sort sort, uint32_t which,
+               int alone);
+void set_wrong_size(struct dice *dice, struct text *text, uint32_t line);
+uint32_t line_of(struct dice *dice, const struct text *text, enum sort sort, enum where where);
+
+/* typing.c: lines that are typed wrongly */
+uint32_t typings(void);
+void mistype(struct dice *dice, struct text *text, uint32_t line, uint32_t way, uint32_t column);
+
+/* genfaults.c: sheets and tapes with one fault, or with several in one line */
+maker read_frame, read_wrong, read_faults, sheet_frame, sheet_wrong, sheet_faults;
+maker day_frame, day_wrong, day_faults;
+
+/* genlines.c: line cases */
+maker line_place, line_odd, line_far, line_size, line_day;
 
 /* gensheets.c: inputs of the command sheet */
 maker sheet_good, sheet_order, sheet_dense, sheet_rest, sheet_loop, sheet_damage, sheet_mend;

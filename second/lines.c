@@ -58,26 +58,37 @@ static int digit_value(uint8_t character)
     return -1;
 }
 
-/* FRAME is not given: not empty, all upper-case hex digits, an even count, and a final 0A. */
-static int frame_right(const struct line *line, struct frame *frame)
+/*
+ * FRAME: the column of the first character that is no upper-case hex digit; else, of an empty
+ * line, an odd count or no final 0A, the one past all characters, where a 0A stands if there is
+ * one; 0 when the line is right.
+ */
+static uint32_t frame_fault(const struct line *line)
 {
     size_t i;
-    int high, low;
 
+    for (i = 0; i < line->length; i++) {
+        if (digit_value(line->bytes[i]) < 0) {
+            return (uint32_t)i + 1;
+        }
+    }
     if (line->length == 0 || line->length % 2 == 1 || !line->ended
         || line->length / 2 > FRAME_MOST) {
-        return 0;
+        return (uint32_t)line->length + 1;
     }
-    for (i = 0; i < line->length / 2; i++) {
-        high = digit_value(line->bytes[2 * i]);
-        low = digit_value(line->bytes[2 * i + 1]);
-        if (high < 0 || low < 0) {
-            return 0;
-        }
-        frame->bytes[i] = (uint8_t)(16 * high + low);
-    }
+    return 0;
+}
+
+/* Takes the bytes that the digits of a line stand for. */
+static void take_bytes(const struct line *line, struct frame *frame)
+{
+    size_t i;
+
     frame->length = line->length / 2;
-    return 1;
+    for (i = 0; i < frame->length; i++) {
+        frame->bytes[i] = (uint8_t)(16 * digit_value(line->bytes[2 * i])
+                                    + digit_value(line->bytes[2 * i + 1]));
+    }
 }
 
 /* CHECK is not given: the sum of all bytes of the frame is a multiple of 256. */
@@ -92,16 +103,25 @@ static int check_right(const struct frame *frame)
     return sum % 256 == 0;
 }
 
-/* Tests a line FRAME and then CHECK; the place is the line's number. */
+/* Tests a line FRAME and then CHECK, whose column is the last digit but one. */
 struct answer frame_and_check(const struct line *line, uint32_t number, struct frame *frame)
 {
-    if (!frame_right(line, frame)) {
-        return answer(FRAME, number);
+    uint32_t fault = frame_fault(line);
+
+    if (fault != 0) {
+        return answer_at(FRAME, number, fault);
     }
+    take_bytes(line, frame);
     if (!check_right(frame)) {
-        return answer(CHECK, number);
+        return answer_at(CHECK, number, (uint32_t)line->length - 1);
     }
     return answer(OK, 0);
+}
+
+/* FIELD at the first digit of the field that starts at a byte of the frame; OK for byte 0. */
+struct answer field_answer(uint32_t number, unsigned at)
+{
+    return at == 0 ? answer(OK, 0) : answer_at(FIELD, number, 2 * at + 1);
 }
 
 /* A number in a frame, high byte first. */

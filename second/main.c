@@ -14,14 +14,14 @@ struct command {
 static const struct command commands[] = {
     {"day", command_day}, {"sheet", command_sheet},
     {"read", command_read}, {"step", command_step}, {"write", command_write},
-    {"kinds", command_kinds}, {"examples", command_examples}
+    {"line", command_line}, {"kinds", command_kinds}, {"examples", command_examples}
 };
 
 /* Says how the program is used; the status for misuse comes back. */
 static int usage(void)
 {
     fprintf(stderr,
-            "usage: second day | sheet | read | step | write | kinds | examples\n"
+            "usage: second day | sheet | read | step | write | line | kinds | examples\n"
             "       second gen SEED KIND [N]\n"
             "       second brute N [SEED]\n"
             "       second rounds N [SEED]\n");

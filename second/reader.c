@@ -27,64 +27,70 @@ static int kind_right(const struct frame *frame, uint32_t number)
 /* Takes a header: version 01, role count 1 to 64. */
 static struct answer take_header(struct sheet *sheet, const struct frame *frame, uint32_t number)
 {
-    sheet->role_count = frame->bytes[2];
-    if (frame->bytes[1] != SHEET_VERSION || sheet->role_count < 1 || sheet->role_count > ROLES_MOST) {
-        return answer(FIELD, number);
-    }
-    return answer(OK, 0);
+    sheet->role_count = frame->bytes[ROLES_AT];
+    return field_answer(number, bad_header(frame->bytes[VERSION_AT], sheet->role_count));
 }
 
 /* Takes a periodic row: TOO MANY over the limit, then FIELD. */
 static struct answer take_periodic(struct sheet *sheet, const struct frame *frame, uint32_t number)
 {
     struct periodic row;
+    unsigned bad;
 
     if (sheet->periodic_count >= PERIODIC_MOST) {
         return answer(TOO_MANY, number);
     }
-    row.begin = number_at(frame, 1, 4);
-    row.end = number_at(frame, 5, 4);
-    row.period = (uint16_t)number_at(frame, 9, 2);
-    row.first = (uint16_t)number_at(frame, 11, 2);
-    row.run = (uint16_t)number_at(frame, 13, 2);
-    row.event = frame->bytes[15];
-    row.priority = frame->bytes[16];
-    if (!periodic_fields_right(&row, sheet->role_count)) {
-        return answer(FIELD, number);
+    row.begin = number_at(frame, BEGIN_AT, 4);
+    row.end = number_at(frame, END_AT, 4);
+    row.period = (uint16_t)number_at(frame, PERIOD_AT, 2);
+    row.first = (uint16_t)number_at(frame, FIRST_AT, 2);
+    row.run = (uint16_t)number_at(frame, RUN_AT, 2);
+    row.event = frame->bytes[EVENT_AT];
+    row.priority = frame->bytes[PRIORITY_AT];
+    bad = bad_periodic(&row, sheet->role_count);
+    if (bad == 0) {
+        sheet->periodic[sheet->periodic_count] = row;
+        sheet->periodic_count++;
     }
-    sheet->periodic[sheet->periodic_count] = row;
-    sheet->periodic_count++;
-    return answer(OK, 0);
+    return field_answer(number, bad);
+}
+
+/* Takes the fields of a trigger frame; of one whose counts are over the limit only these. */
+static void take_row(struct trigger *row, const struct frame *frame)
+{
+    size_t at = BODY_AT;
+
+    memset(row, 0, sizeof *row);
+    row->event_count = frame->bytes[EVENT_COUNT_AT];
+    row->condition_count = frame->bytes[CONDITION_COUNT_AT];
+    if (row->event_count > BODY_MOST || row->condition_count > BODY_MOST) {
+        return;
+    }
+    memcpy(row->events, frame->bytes + at, row->event_count);
+    at += row->event_count;
+    memcpy(row->conditions, frame->bytes + at, row->condition_count);
+    at += row->condition_count;
+    row->head = frame->bytes[at];
+    row->priority = frame->bytes[at + 1];
+    row->delay = frame->bytes[at + 2];
 }
 
 /* Takes a trigger: TOO MANY over the limit, then FIELD. */
 static struct answer take_trigger(struct sheet *sheet, const struct frame *frame, uint32_t number)
 {
     struct trigger row;
-    size_t at = 3;
+    unsigned bad;
 
     if (sheet->trigger_count >= TRIGGERS_MOST) {
         return answer(TOO_MANY, number);
     }
-    memset(&row, 0, sizeof row);
-    row.event_count = frame->bytes[1];
-    row.condition_count = frame->bytes[2];
-    if (row.event_count > BODY_MOST || row.condition_count > BODY_MOST) {
-        return answer(FIELD, number);
+    take_row(&row, frame);
+    bad = bad_trigger(&row, sheet->role_count);
+    if (bad == 0) {
+        sheet->trigger[sheet->trigger_count] = row;
+        sheet->trigger_count++;
     }
-    memcpy(row.events, frame->bytes + at, row.event_count);
-    at += row.event_count;
-    memcpy(row.conditions, frame->bytes + at, row.condition_count);
-    at += row.condition_count;
-    row.head = frame->bytes[at];
-    row.priority = frame->bytes[at + 1];
-    row.delay = frame->bytes[at + 2];
-    if (!trigger_fields_right(&row, sheet->role_count)) {
-        return answer(FIELD, number);
-    }
-    sheet->trigger[sheet->trigger_count] = row;
-    sheet->trigger_count++;
-    return answer(OK, 0);
+    return field_answer(number, bad);
 }
 
 /* Takes the end frame: COUNT when its counts differ from the rows taken. */

@@ -19,15 +19,11 @@ void put_read_case(struct text *out, const struct read_case *from, const uint8_t
 /* Takes a read case from standard input. */
 static void take_read_case(struct read_case *to, uint8_t *sheet)
 {
-    uint32_t i;
-
     to->sheet_length = (uint32_t)take_next(8, FORM_SHEET_MOST, ' ', "length of the sheet");
     to->periodic_length = take_periodic_length();
     to->trigger_length = take_trigger_length();
     to->fill = (uint8_t)take_next(2, 0xFF, 0x0A, "fill");
-    for (i = 0; i < to->sheet_length; i++) {
-        sheet[i] = (uint8_t)form_raw("byte of the sheet");
-    }
+    form_bytes(sheet, to->sheet_length, "byte of the sheet");
     form_byte(0x0A, "end of the sheet");
 }
 
@@ -83,6 +79,7 @@ static void put_read_result(struct text *out, struct answer found, const struct 
     uint32_t i;
 
     put_answer(out, found);
+    put_next(out, found.column, 8);
     put_next(out, sheet->role_count, 2);
     put_next(out, sheet->periodic_count, 2);
     put_next(out, sheet->trigger_count, 4);

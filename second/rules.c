@@ -1,4 +1,4 @@
-/* Single rules of document 01: events, conditions, due, blocked, field limits. */
+/* Single rules of document 01: events, conditions, due, blocked, requests. */
 #include "second.h"
 
 #include <string.h>
@@ -111,40 +111,6 @@ unsigned nonblocked_events(const struct set *set)
         }
     }
     return count;
-}
-
-/* Whether every field of a periodic row is inside its limit. */
-int periodic_fields_right(const struct periodic *row, uint32_t role_count)
-{
-    return row->begin <= INSTANT_MOST
-        && (row->end == NO_END || (row->end >= row->begin && row->end <= INSTANT_MOST))
-        && row->period >= 1 && row->period <= PERIOD_MOST
-        && row->first < row->period
-        && row->run >= 1 && row->run <= row->period
-        && row->event < 2 * role_count
-        && row->priority < PRIORITIES;
-}
-
-/* Whether every field of a trigger is inside its limit; the places past its counts are ignored. */
-int trigger_fields_right(const struct trigger *row, uint32_t role_count)
-{
-    unsigned i;
-
-    if (row->event_count < 1 || row->event_count > BODY_MOST
-        || row->condition_count > BODY_MOST) {
-        return 0;
-    }
-    for (i = 0; i < row->event_count; i++) {
-        if (row->events[i] >= 2 * role_count) {
-            return 0;
-        }
-    }
-    for (i = 0; i < row->condition_count; i++) {
-        if (row->conditions[i] >= 2 * role_count) {
-            return 0;
-        }
-    }
-    return row->head < 2 * role_count && row->priority < PRIORITIES && row->delay <= DELAY_MOST;
 }
 
 /*

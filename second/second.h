@@ -44,10 +44,20 @@ enum {
     LAST = 10
 };
 
-/* An answer is its number and its place. */
+/* The bytes of the frames at which their fields start; byte 0 is the kind. */
+enum {
+    VERSION_AT = 1, ROLES_AT = 2,
+    BEGIN_AT = 1, END_AT = 5, PERIOD_AT = 9, FIRST_AT = 11, RUN_AT = 13, EVENT_AT = 15,
+    PRIORITY_AT = 16,
+    EVENT_COUNT_AT = 1, CONDITION_COUNT_AT = 2, BODY_AT = 3,
+    INSTANT_AT = 1
+};
+
+/* An answer is its number, its place and its column, which is 0 where there is none. */
 struct answer {
     unsigned number;
     uint32_t place;
+    uint32_t column;
 };
 
 /* A periodic row, in the order of its frame. */
@@ -160,6 +170,13 @@ struct line {
     int ended;
 };
 
+/* A part of the sheet or of the tape: from a byte, counted from 0, up to another. */
+struct shown {
+    int of_tape;
+    size_t from;
+    size_t to;
+};
+
 /* The bytes that a line of hexadecimal digits stands for. */
 struct frame {
     uint8_t bytes[FRAME_MOST];
@@ -174,6 +191,7 @@ struct text {
 
 /* text.c */
 struct answer answer(unsigned number, uint32_t place);
+struct answer answer_at(unsigned number, uint32_t place, uint32_t column);
 void text_clear(struct text *text);
 void text_byte(struct text *text, unsigned byte);
 void text_bytes(struct text *text, const uint8_t *bytes, size_t length);
@@ -191,9 +209,12 @@ int same_set(const struct set *one, const struct set *other);
 struct set unblocked_by(const struct set *set);
 struct set nonblocked(const struct set *set);
 unsigned nonblocked_events(const struct set *set);
-int periodic_fields_right(const struct periodic *row, uint32_t role_count);
-int trigger_fields_right(const struct trigger *row, uint32_t role_count);
 int request_right(const struct request *request, uint32_t role_count);
+
+/* fields.c */
+unsigned bad_header(unsigned version, uint32_t role_count);
+unsigned bad_periodic(const struct periodic *row, uint32_t role_count);
+unsigned bad_trigger(const struct trigger *row, uint32_t role_count);
 
 /* loop.c */
 struct answer loop_test(const struct trigger *trigger, uint32_t count);
@@ -225,6 +246,7 @@ int next_line(struct cursor *cursor, struct line *line);
 uint32_t count_lines(const uint8_t *bytes, size_t length);
 struct answer frame_and_check(const struct line *line, uint32_t number,
                               struct frame *frame);
+struct answer field_answer(uint32_t number, unsigned at);
 uint32_t number_at(const struct frame *frame, size_t at, size_t bytes);
 
 /* reader.c */
@@ -241,6 +263,10 @@ void put_end_of(struct text *out, uint32_t periodic_count, uint32_t trigger_coun
 /* writer.c */
 struct answer write_sheet(const struct tables *tables, uint8_t *buffer, size_t buffer_length,
                           size_t *written);
+
+/* shown.c */
+struct shown faulty_line(const uint8_t *sheet, size_t sheet_length,
+                         const uint8_t *tape, size_t tape_length, struct answer found);
 
 /* tape.c */
 struct answer read_tape(const uint8_t *bytes, size_t length,
@@ -259,15 +285,17 @@ void day(const uint8_t *input, size_t length, struct text *out);
 /* resend.c */
 void resend(const uint8_t *input, size_t length, struct text *out);
 
-/* readform.c, stepform.c, writeform.c, form.c: the commands read, step and write */
+/* readform.c, stepform.c, writeform.c, lineform.c, form.c: the commands of cases */
 int command_read(void);
 int command_step(void);
 int command_write(void);
+int command_line(void);
 void bad_form(const char *what);
 int more_cases(void);
 uint64_t form_hex(unsigned digits, uint64_t most, const char *what);
 void form_byte(unsigned byte, const char *what);
 unsigned form_raw(const char *what);
+void form_bytes(uint8_t *to, uint32_t count, const char *what);
 
 /* The other commands. */
 int command_day(void);

@@ -42,12 +42,12 @@ static struct answer field_test(const struct tables *tables)
         return answer(FIELD, 0);
     }
     for (i = 0; i < tables->periodic_count; i++) {
-        if (!periodic_fields_right(&tables->periodic[i], tables->role_count)) {
+        if (bad_periodic(&tables->periodic[i], tables->role_count) != 0) {
             return answer(FIELD, i);
         }
     }
     for (i = 0; i < tables->trigger_count; i++) {
-        if (!trigger_fields_right(&tables->trigger[i], tables->role_count)) {
+        if (bad_trigger(&tables->trigger[i], tables->role_count) != 0) {
             return answer(FIELD, tables->periodic_count + i);
         }
     }

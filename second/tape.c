@@ -23,7 +23,7 @@ static size_t in_a_row(const struct tape *tape, uint32_t instant)
 static struct answer take_request(struct tape *tape, const struct frame *frame,
                                   uint32_t number, uint32_t role_count)
 {
-    uint32_t instant = number_at(frame, 1, 4);
+    uint32_t instant = number_at(frame, INSTANT_AT, 4);
     struct request request;
 
     request.event = frame->bytes[5];
@@ -33,7 +33,7 @@ static struct answer take_request(struct tape *tape, const struct frame *frame,
         return answer(TOO_MANY, number);
     }
     if (tape->count > 0 && instant < tape->instants[tape->count - 1]) {
-        return answer(FIELD, number);
+        return field_answer(number, INSTANT_AT);
     }
     if (!request_right(&request, role_count)) {
         return answer(REQUEST, number);
@@ -47,12 +47,12 @@ static struct answer take_request(struct tape *tape, const struct frame *frame,
 /* Takes F1: FIELD when the last instant is over 10,080 or below the last request's. */
 static struct answer take_last(struct tape *tape, const struct frame *frame, uint32_t number)
 {
-    tape->last = number_at(frame, 1, 4);
+    tape->last = number_at(frame, INSTANT_AT, 4);
     if (tape->last > DAY_LAST_MOST) {
-        return answer(FIELD, number);
+        return field_answer(number, INSTANT_AT);
     }
     if (tape->count > 0 && tape->last < tape->instants[tape->count - 1]) {
-        return answer(FIELD, number);
+        return field_answer(number, INSTANT_AT);
     }
     return answer(OK, 0);
 }

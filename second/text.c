@@ -4,14 +4,21 @@
 #include <stdio.h>
 #include <stdlib.h>
 
-/* An answer with its number and its place. */
-struct answer answer(unsigned number, uint32_t place)
+/* An answer with its number, its place and its column. */
+struct answer answer_at(unsigned number, uint32_t place, uint32_t column)
 {
     struct answer made;
 
     made.number = number;
     made.place = place;
+    made.column = column;
     return made;
+}
+
+/* An answer without a column. */
+struct answer answer(unsigned number, uint32_t place)
+{
+    return answer_at(number, place, 0);
 }
 
 /* Makes the page empty. */

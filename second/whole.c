@@ -21,14 +21,15 @@ size_t take_input(uint8_t *input)
     return length;
 }
 
-/* A refusal prints only E0, number 1, place 4 and check. */
+/* A refusal prints only E0, number 1, place 4, column 4 and check. */
 void put_refusal(struct text *out, struct answer refusal)
 {
-    uint8_t bytes[6];
+    uint8_t bytes[10];
 
     bytes[0] = 0xE0;
     bytes[1] = (uint8_t)refusal.number;
     put_number(bytes + 2, refusal.place, 4);
+    put_number(bytes + 6, refusal.column, 4);
     text_frame(out, bytes, sizeof bytes);
 }
 

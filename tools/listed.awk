@@ -126,6 +126,7 @@ function take_contract(s) {
     sub(/.*⌜ /, "", s)
     sub(/ ⌝.*/, "", s)
     contract[fn] = said(words_of(s))
+    sub("^now " outcome[fn] " ", outcome[fn] " ", contract[fn]) # of a returned part, what it holds
 }
 
 # a contract may stand over several lines: it is taken as one
@@ -135,7 +136,7 @@ FILENAME ~ /\.rt$/ {
     clause = line ~ /^    (requires|ensures) / && line !~ /⌝ \}$/ ? line : ""
     if (clause != "") next
     if (line ~ /^ghost use /) { split(FILENAME, path, "/"); take_use(path[2], line) }
-    if (line ~ /^pub fn /) open_function($3)
+    if (line ~ /^pub fn /) { sub(/<'[a-z]+>/, "", $3); open_function($3) } # a lifetime is no part of the name
     if (fn == "") next
     if (line ~ /\{$/) { close_function(); next }
     if (line ~ /^    requires/) asks[fn] = 1

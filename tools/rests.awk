@@ -426,7 +426,7 @@ BEGIN {
     for (i in w) relation[w[i]] = 1
     split("ℕ Bool List String Char", w, " ")
     for (i in w) kit_data[w[i]] = 1
-    n = split("reader::read_sheet writer::write_sheet step::step entry::step_requests resend::resend day_print::day", w, " ")
+    n = split("reader::read_sheet writer::write_sheet step::step entry::step_requests resend::resend day_print::day faulty_line::faulty_line faulty_line::faulty_part", w, " ")
     for (i = 1; i <= n; i++) entry[before(w[i], "::") "/src" SUBSEP after(w[i], "::")] = 1
     # proofs that stand among definitions, and why
     excuse["claims/Demands" SUBSEP "*"] = "the theorems that an auditor reads first"

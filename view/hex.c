@@ -83,6 +83,30 @@ uint32_t number_at(const struct frame *frame, size_t at, size_t bytes)
     return number;
 }
 
+/* A byte of a line of digits, by its number from 0; 0 where there is none. The line may be long. */
+unsigned byte_in(const struct line *line, size_t at)
+{
+    unsigned high, low;
+
+    if (line->length < 2 || at > (line->length - 2) / 2) {
+        return 0;
+    }
+    high = value_of(line->bytes[2 * at]);
+    low = value_of(line->bytes[2 * at + 1]);
+    return high > 15 || low > 15 ? 0 : 16 * high + low;
+}
+
+/* The number of so many bytes of a line of digits, high byte first. */
+uint32_t number_in(const struct line *line, size_t at, size_t bytes)
+{
+    uint32_t number = 0;
+
+    for (; bytes > 0; bytes--, at++) {
+        number = number << 8 | byte_in(line, at);
+    }
+    return number;
+}
+
 /*
  * Shows a line, going on from 'line 4': how long it is, and between quotes its characters, or the
  * first of many. What is no ASCII character that prints, and the backslash, is shown as \xNN.

@@ -48,6 +48,8 @@ int begins(const struct line *line, const char *digits);
 int frame_of(const struct line *line, struct frame *frame);
 unsigned sum_of(const struct frame *frame, size_t bytes);
 uint32_t number_at(const struct frame *frame, size_t at, size_t bytes);
+unsigned byte_in(const struct line *line, size_t at);
+uint32_t number_in(const struct line *line, size_t at, size_t bytes);
 void show_line(FILE *out, const struct line *line);
 
 #endif

@@ -7,7 +7,12 @@
 enum {
     EVENTS = 128,
     BODY_MOST = 4,
-    TRIGGERS_MOST = 256
+    TRIGGERS_MOST = 256,
+    INSTANT_MOST = 0xFFFFFF,
+    PERIOD_MOST = 10080,
+    PRIORITY_MOST = 15,
+    DELAY_MOST = 60,
+    DAY_MOST = 10080 /* the last minute of the longest day */
 };
 
 #define NO_END UINT32_C(0xFFFFFFFF)

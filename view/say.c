@@ -58,6 +58,15 @@ static void say_span(unsigned from, unsigned to)
     }
 }
 
+/* How many roles there are, and which, as '3 roles (0 to 2)'; there is one at least. */
+void say_roles(unsigned count)
+{
+    say_count(count, "role");
+    printf(" (");
+    say_span(0, count - 1);
+    printf(")");
+}
+
 /* The header: how many roles there are, how rows are counted, and which roles have names. */
 static int say_header(const struct names *names, struct sheet *sheet, const struct frame *frame)
 {
@@ -68,10 +77,8 @@ static int say_header(const struct names *names, struct sheet *sheet, const stru
     }
     sheet->role_count = frame->bytes[2];
     printf(": a sheet of ");
-    say_count(sheet->role_count, "role");
-    printf(" (");
-    say_span(0, sheet->role_count - 1);
-    printf("); its periodic rows and its triggers are each counted from 0");
+    say_roles(sheet->role_count);
+    printf("; its periodic rows and its triggers are each counted from 0");
     for (i = 0; i < names->count; i++) {
         printf("%s role %u is %s", i == 0 ? ";" : ",", names->list[i].role, names->list[i].text);
     }

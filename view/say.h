@@ -7,6 +7,7 @@
 
 /* say.c */
 void say_count(unsigned count, const char *thing);
+void say_roles(unsigned count);
 void say_event(const struct names *names, unsigned event);
 int say_frame(const struct names *names, struct sheet *sheet, const struct frame *frame);
 

@@ -20,7 +20,7 @@ static int fail(int status, const char *why)
 
 /*
  * Reads a program's first line: 50 begins a day and 10 a sheet, which are OK, E0 a refusal with its
- * number and place. 0 when it is none of them.
+ * number, place and column. 0 when it is none of them.
  */
 static int read_verdict(const char *text, struct refusal *refusal)
 {
@@ -34,11 +34,12 @@ static int read_verdict(const char *text, struct refusal *refusal)
     if (!frame_of(&line, &frame) || sum_of(&frame, frame.length) != 0) {
         return 0;
     }
-    if (frame.bytes[0] != REFUSAL_FRAME || frame.length != 7) {
+    if (frame.bytes[0] != REFUSAL_FRAME || frame.length != 11) {
         return frame.bytes[0] == MINUTE_FRAME || frame.bytes[0] == HEADER;
     }
     refusal->number = frame.bytes[1];
     refusal->place = number_at(&frame, 2, 4);
+    refusal->column = number_at(&frame, 6, 4);
     return refusal->number >= LENGTH && refusal->number <= REQUEST;
 }
 
@@ -84,6 +85,7 @@ static void say_lines(const struct names *names, struct sheet *sheet, struct tex
             return;
         }
         say_line(names, sheet, &refusal->line, number);
+        refusal->above = refusal->line;
         refusal->before++;
         if (!refusal->on_tape && begins(&refusal->line, "F0")) {
             if (refusal->number == LOOP) {
@@ -103,7 +105,7 @@ static void say_lines(const struct names *names, struct sheet *sheet, struct tex
 static void say_input(const struct names *names, struct sheet *sheet, struct text text,
                       struct refusal *refusal)
 {
-    refusal->input_length = text.length;
+    refusal->input = text;
     if (refusal->number != LENGTH) {
         say_lines(names, sheet, text, refusal);
     }

@@ -28,13 +28,14 @@ static void put_number(byte *to, u64 value, u32 count)
     }
 }
 
-/* The line of a refusal: its number and its place. */
+/* The line of a refusal: its number, its place and its column. */
 static byte *put_refusal(byte *to, struct answer refusal)
 {
-    byte frame[6] = {0xE0};
+    byte frame[10] = {0xE0};
 
     frame[1] = (byte)refusal.name;
     put_number(frame + 2, refusal.place, 4);
+    put_number(frame + 6, refusal.column, 4);
     return put_line(to, frame, sizeof frame);
 }
 

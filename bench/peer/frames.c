@@ -41,3 +41,23 @@ enum name next_frame(struct lines *lines, struct frame *frame)
     lines->at += 2 * frame->count + 1;
     return sum % 256 == 0 ? OK : CHECK;
 }
+
+/*
+ * The refusal of the line that was read last, with its column. FRAME: what ended the digits, which
+ * still stands there. CHECK: the first check digit. FIELD: the first digit of the field, given by
+ * the number of its first byte in the frame.
+ */
+struct answer refuse(enum name name, const struct lines *lines, const struct frame *frame,
+                     u32 field)
+{
+    struct answer refusal = answer(name, lines->line);
+
+    if (name == FRAME) {
+        refusal.column = 2 * frame->count + 1 + (digit[lines->at[2 * frame->count]] < BAD);
+    } else if (name == CHECK) {
+        refusal.column = 2 * frame->count - 1;
+    } else if (name == FIELD) {
+        refusal.column = 2 * field + 1;
+    }
+    return refusal;
+}

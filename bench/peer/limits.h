@@ -4,14 +4,32 @@
 
 #include "peer.h"
 
+/* The end of a periodic row, given its begin. */
+static inline int end_fits(const struct periodic *row)
+{
+    return (row->begin <= row->end && row->end <= LAST_INSTANT) || row->end == NO_END;
+}
+
+/* Its period. */
+static inline int period_fits(const struct periodic *row)
+{
+    return row->period >= 1 && row->period <= LONGEST_PERIOD;
+}
+
+/* Its run, given its period. */
+static inline int run_fits(const struct periodic *row)
+{
+    return row->run >= 1 && row->run <= row->period;
+}
+
 /* A periodic row holds what it may. */
 static inline int periodic_fits(const struct periodic *row, u32 roles)
 {
     return row->begin <= LAST_INSTANT
-        && ((row->begin <= row->end && row->end <= LAST_INSTANT) || row->end == NO_END)
-        && row->period >= 1 && row->period <= LONGEST_PERIOD
+        && end_fits(row)
+        && period_fits(row)
         && row->first < row->period
-        && row->run >= 1 && row->run <= row->period
+        && run_fits(row)
         && row->event < 2 * roles
         && row->priority < PRIORITIES;
 }

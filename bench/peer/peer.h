@@ -1,5 +1,6 @@
 /*
- * The peer: document 01's day program, written in C for speed, to be measured beside ours.
+ * The peer: document 01's day program, with the columns of request [2], written in C for speed, to
+ * be measured beside ours.
  * It includes nothing, for the kit's compiler has no headers.
  */
 #ifndef PEER_H
@@ -42,10 +43,10 @@ enum {
 /* What comes back: the answers by their numbers. */
 enum name { OK, LENGTH, FRAME, CHECK, KIND, FIELD, TOO_MANY, COUNT, LOOP, REQUEST, LAST };
 
-/* An answer is its name and its place. */
+/* An answer is its name, its place and its column, from 1; 0 where it has none. */
 struct answer {
     enum name name;
-    u32 place;
+    u32 place, column;
 };
 
 /* A periodic row, in the order of its frame. */
@@ -103,13 +104,14 @@ struct frame {
     u32 count;
 };
 
-/* An answer of its two parts. */
+/* An answer without a column. */
 static inline struct answer answer(enum name name, u32 place)
 {
     struct answer a;
 
     a.name = name;
     a.place = place;
+    a.column = 0;
     return a;
 }
 
@@ -140,6 +142,8 @@ static inline int live(const u16 *events, u32 event)
 
 /* frames.c */
 enum name next_frame(struct lines *lines, struct frame *frame);
+struct answer refuse(enum name name, const struct lines *lines, const struct frame *frame,
+                     u32 field);
 
 /* loop.c */
 struct answer loop_test(const struct trigger *trigger, u32 count, byte *levels);

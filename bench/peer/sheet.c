@@ -116,6 +116,51 @@ static enum name take(struct reading *seen, const struct frame *frame)
     }
 }
 
+/* The first bad field of a periodic row that does not fit, by its first byte in the frame. */
+static u32 bad_in_periodic(const struct periodic *row, u32 roles)
+{
+    return row->begin > LAST_INSTANT ? 1
+        : !end_fits(row) ? 5
+        : !period_fits(row) ? 9
+        : row->first >= row->period ? 11
+        : !run_fits(row) ? 13
+        : row->event >= 2 * roles ? 15
+        : 16;
+}
+
+/* That of a trigger. Its events, its conditions and its head have one limit. */
+static u32 bad_in_trigger(const byte *bytes, u32 roles)
+{
+    u32 i, head;
+
+    if (bytes[1] < 1 || bytes[1] > BODY_EVENTS) {
+        return 1;
+    }
+    if (bytes[2] > BODY_CONDITIONS) {
+        return 2;
+    }
+    head = 3u + bytes[1] + bytes[2];
+    for (i = 3; i <= head; i++) {
+        if (bytes[i] >= 2 * roles) {
+            return i;
+        }
+    }
+    return bytes[head + 1] >= PRIORITIES ? head + 1 : head + 2;
+}
+
+/* That of the frame that was taken last, and was FIELD; a periodic row stands as the last one. */
+static u32 bad_field(const struct reading *seen, const byte *bytes)
+{
+    switch (bytes[0]) {
+    case HEADER:
+        return bytes[1] != 1 ? 1 : 2;
+    case PERIODIC:
+        return bad_in_periodic(&seen->periodic[seen->periodics - 1], seen->roles);
+    default:
+        return bad_in_trigger(bytes, seen->roles);
+    }
+}
+
 /* What passed comes into the lent tables. */
 static void hand_out(const struct reading *seen, struct tables *tables)
 {
@@ -147,7 +192,7 @@ struct answer read_sheet(byte *sheet, u32 length, struct tables *tables)
             name = take(&seen, &frame);
         }
         if (name != OK) {
-            return answer(name, lines.line);
+            return refuse(name, &lines, &frame, name == FIELD ? bad_field(&seen, frame.bytes) : 0);
         }
     }
     if (!seen.ended) {

@@ -64,7 +64,7 @@ static enum name take(struct hearing *heard, const struct frame *frame, u32 role
     return KIND;
 }
 
-/* Reads a tape, whose lines are counted on from the sheet's. */
+/* Reads a tape, whose lines are counted on from the sheet's. FIELD is always of an instant. */
 struct answer read_tape(struct lines lines, u32 roles, struct tape *tape)
 {
     struct hearing heard = {0, 0, 0};
@@ -78,7 +78,7 @@ struct answer read_tape(struct lines lines, u32 roles, struct tape *tape)
             name = take(&heard, &frame, roles, tape);
         }
         if (name != OK) {
-            return answer(name, lines.line);
+            return refuse(name, &lines, &frame, 1);
         }
     }
     return heard.ended ? answer(OK, 0) : answer(KIND, lines.line + 1);

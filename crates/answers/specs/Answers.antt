@@ -1,4 +1,4 @@
--- Document 01's table 'What comes back': the number of each answer, and the values that come with it. Contracts speak of verdicts, or of what holds one;
+-- Document 01's table 'What comes back': the number of each answer, and the values that come with it; and the column that document 02, [2], adds to them. Contracts speak of verdicts, or of what holds one;
 -- what a verdict is in numbers is said here alone: `numberOf` in the line of a refusal (printed_frames/Frames), `answered` for `answer_of` and in the demands (claims/Demands).
 -- Assumes nothing.
 use Prim.Native.Nat.{ℕ}
@@ -22,14 +22,18 @@ numberOf Loop = 8
 numberOf Request = 9
 numberOf Last = 10
 
--- OK is number 0 with place 0; a refusal is its number and its place
+-- OK is number 0 with place 0 and column 0; a refusal is its number, its place and its column
 abbrev pub answered : Verdict → Answer
-answered Pass = record { number = 0; place = 0 }
-answered (Refused r) = record { number = numberOf (r .name); place = r .place }
+answered Pass = record { number = 0; place = 0; column = 0 }
+answered (Refused r) = record { number = numberOf (r .name); place = r .place; column = r .column }
 
--- a refusal, at its place
+-- a refusal, at its place, and without a column: 0
 abbrev pub refusal : Name → ℕ → Refusal
-refusal name place = record { name = name; place = place }
+refusal name place = record { name = name; place = place; column = 0 }
+
+-- the same refusal, in this column
+abbrev pub inColumn : ℕ → Refusal → Refusal
+inColumn column r = record { name = r .name; place = r .place; column = column }
 
 -- the verdict that refuses
 abbrev pub refuse : Name → ℕ → Verdict

@@ -19,6 +19,10 @@ verdict-cases (Refused r) = inr (r, refl)
 pub no-pass : {C : Type 0} (r : Refusal) → Refused r ≡ Pass → C
 no-pass r e = absurd (let z : _≡_ {A = ℕ} 0 1 = cc in omega arith)
 
+-- one verdict has one refusal
+pub refused-same : (a b : Refusal) → Refused a ≡ Refused b → a ≡ b
+refused-same a b e = cc
+
 -- where a test that must hold does not, there is a refusal
 pub cond-pass : (b : Bool) (v : Verdict) (name : Name) (place : ℕ) → cond b v (refuse name place) ≡ Pass → (b ≡ true) × (v ≡ Pass)
 cond-pass true v name place e = (refl, e)

@@ -1,6 +1,6 @@
-// What comes back of every entry: a verdict, its refusal with its place, and both in document 01's numbers. Every refusal is made here.
+// What comes back of every entry: a verdict, its refusal with its place and column, and both in document 01's numbers. Every refusal is made here.
 ghost use mathlib.Core.Path.{_≡_};
-ghost use Rattle.answers.specs.Answers.{numberOf, answered, refusal, refuse, andThen};
+ghost use Rattle.answers.specs.Answers.{numberOf, answered, refusal, inColumn, refuse, andThen};
 
 // The refusals of document 01, 'What comes back', by name.
 pub enum Name {
@@ -16,10 +16,11 @@ pub enum Name {
     Last,
 }
 
-// A refusal: which, and at which place.
+// A refusal: which, at which place, and in which column of its line, from 1. The column is 0 where there is no line, and of a refusal that has none.
 pub struct Refusal {
     pub name: Name,
     pub place: u32,
+    pub column: usize,
 }
 
 // What a judge says: nothing against it, or the refusal.
@@ -32,15 +33,29 @@ pub enum Verdict {
 pub struct Answer {
     pub number: u8,
     pub place: u32,
+    pub column: usize,
 }
 
-// A refusal, at its place. Every one is made here.
+// A refusal, at its place, without a column. Every one is made here.
 pub fn refusal_of(name: Name, place: u32) -> Refusal
     ensures { λ r. ⌜ r ≡ refusal name place ⌝ }
 {
     Refusal {
         name: name,
         place: place,
+        column: 0,
+    }
+}
+
+// The same refusal, in this column.
+pub fn in_column(r: Refusal, column: usize) -> Refusal
+    ensures { λ x. ⌜ x ≡ inColumn column r ⌝ }
+{
+    let name = r.name;
+    Refusal {
+        name: name,
+        place: r.place,
+        column: column,
     }
 }
 
@@ -79,7 +94,7 @@ pub fn number_of(name: Name) -> u8
     }
 }
 
-// What a verdict is in document 01's numbers: 0 and place 0 for OK, else the refusal's number and place.
+// What a verdict is in document 01's numbers: 0, place 0 and column 0 for OK, else the refusal's number, place and column.
 pub fn answer_of(verdict: Verdict) -> Answer
     ensures { λ r. ⌜ r ≡ answered verdict ⌝ }
 {
@@ -87,12 +102,14 @@ pub fn answer_of(verdict: Verdict) -> Answer
         Verdict::Pass => Answer {
             number: 0,
             place: 0,
+            column: 0,
         },
         Verdict::Refused(r) => {
             let name = r.name;
             Answer {
                 number: number_of(name),
                 place: r.place,
+                column: r.column,
             }
         }
     }

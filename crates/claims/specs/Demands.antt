@@ -2,19 +2,22 @@
 -- The definitions are document 01's words. `theory` is its model: `Sheet` (rows, limits, due), `Instant` (the equation), `Graph` (loops), `Model` (the paper's runs), `Box` (a step). `reading`
 -- (reader/Reading) is what the reader gives, `Outcome` (step/Outcome) what a step gives, `DayOutcome` and `Prints` (day_print/Day) what a day gives and prints, `WriteOutcome` (writer/Outcome) what the
 -- writer gives, `ResendOutcome` (resend/Resend) what a sheet gives that is read and written again. The contracts of the code are these same definitions: `read_sheet` (reader/src), `step` (step/src),
--- `step_requests` (entry/src), `day` (day_print/src), `write_sheet` (writer/src), `resend` (resend/src). None of the six asks anything of its caller. A few words that no crate below has are in `Words`.
+-- `step_requests` (entry/src), `day` (day_print/src), `write_sheet` (writer/src), `resend` (resend/src), and `faulty_line` with `faulty_part` (faulty_line/src). None of the eight asks anything of its caller. A few words that no crate below has are in `Words`.
 -- First the three demands of the base; then reading, the day, the P table and what is shut out; then the customer's change requests, one after the other.
 -- Assumes nothing.
-use mathlib.Core.Path.{_≡_, refl, sym, ap, _∙_}
+use mathlib.Core.Path.{_≡_, refl, sym, ap, _∙_, subst}
 use mathlib.Core.Logic.{_⊎_, inl, inr, ⊎-elim, _↔_}
-use mathlib.Core.List.{List, _++_}
-use Prim.Native.Nat.{ℕ, suc, _^_, _≤_, _<_}
-use lib.ListN.{length, take, drop}
+use mathlib.Core.Bool.{true, false, _&&_}
+use mathlib.Core.List.{List, [], _∷_, _++_, map}
+use Prim.Native.Nat.{ℕ, suc, _+_, _*_, _^_, _≤_, _<_}
+use native.Mathlib.Omega.{arith}
+use lib.Dec.{leb, ltb, eqb}
+use lib.ListN.{length, getD, take, drop}
 use Rattle.tables.specs.declared.Counts.{Counts}
-use Rattle.theory.specs.Numbers.{EVENTS, LAST-INSTANT, SHEET-BYTES, WAITING-NUMBERS}
-use Rattle.theory.specs.Below.{ExactlyOne}
+use Rattle.theory.specs.Numbers.{ROLES, EVENTS, LAST-INSTANT, SHEET-BYTES, WAITING-NUMBERS, LONGEST-PERIOD, BODY-EVENTS, BODY-CONDITIONS}
+use Rattle.theory.specs.Below.{all, testsBelow, ExactlyOne}
 use Rattle.theory.specs.Events.{Events, Roles}
-use Rattle.theory.specs.Sheet.{Sheet, GoodOrder}
+use Rattle.theory.specs.Sheet.{Sheet, ofRoles, isPriority, endFits, eventTests, GoodOrder}
 use Rattle.theory.specs.Instant.{Solves}
 use Rattle.theory.specs.Graph.{NoLoop, LoopAt}
 use Rattle.theory.specs.Used.{SameUsed}
@@ -23,13 +26,20 @@ use Rattle.theory.specs.LoopTest.{PAIRS, loopPlace}
 use Rattle.theory.specs.Laws.Loop
 use Rattle.theory.specs.Laws.OneSolution
 use Rattle.answers.specs.declared.Name.{Name}
-use Rattle.answers.specs.declared.Name.the-variants.{Length as LENGTH, Loop as LOOP}
+use Rattle.answers.specs.declared.Name.the-variants.{Length as LENGTH, Kind as KIND, Loop as LOOP}
 use Rattle.answers.specs.declared.Refusal.{Refusal}
 use Rattle.answers.specs.declared.Verdict.{Verdict}
 use Rattle.answers.specs.declared.Verdict.the-variants.{Pass, Refused}
 use Rattle.answers.specs.Answers.{numberOf, answered, refusal}
-use Rattle.text.specs.Lines.{lines}
-use Rattle.tables.specs.Layout.{PERIODIC-TABLE, TRIGGER-TABLE}
+use Rattle.text.specs.Lines.{line, lines, allLines}
+use Rattle.frames.specs.Frame.{bytesOf}
+use Rattle.kinds.specs.Kinds.{HEADER, PERIODIC, TRIGGER}
+use Rattle.fields.specs.Fields.{VERSION, frameFits, frameTests, fieldByte, FieldColumn}
+use Rattle.fields.specs.Laws as Fields
+use Rattle.fields.specs.Laws.Bytes as FieldBytes
+use Rattle.line_readers.specs.Says.{ColumnSays, FaultyAt}
+use Rattle.line_readers.specs.Walks.{refused as stopped}
+use Rattle.tables.specs.Layout.{PERIODIC-TABLE, TRIGGER-TABLE, byteAt, two, four}
 use Rattle.tables.specs.Buffers.{eventsOf, Narrow}
 use Rattle.tables.specs.Asked.{Asked}
 use Rattle.reader.specs.declared.Reading.the-variants.{Good, Refused}
@@ -39,7 +49,8 @@ use Rattle.reader.specs.Out.{ReadOutcome, readOutcome, sheetRead}
 use Rattle.reader.specs.Reading.{reading}
 use Rattle.accepted.specs.Laws.Accepted
 use Rattle.line_by_line.specs.Lines.{linesIn, restIn, joined, CutInto}
-use Rattle.line_by_line.specs.ComesBack.{RefusedAt, ReadsWhole, periodicTable, triggerTable, countsOf, LengthsFit, framesIn, ComesBack}
+use Rattle.line_by_line.specs.Tests.{roleCount}
+use Rattle.line_by_line.specs.ComesBack.{framesBefore, RefusedAt, faultyLine, refusalAt, ReadsWhole, periodicTable, triggerTable, countsOf, LengthsFit, framesIn, ComesBack}
 use Rattle.line_by_line.specs.Laws.Cut
 use Rattle.table_judge.specs.Judge.{judgeTables}
 use Rattle.table_judge.specs.Says.{Says}
@@ -56,7 +67,15 @@ use Rattle.runs.specs.Runs.{Steps, GoesOn, IsPapers}
 use Rattle.runs.specs.Laws.{run-is-papers}
 use Rattle.day_split.specs.Split.{upToEnd, afterEnd, sheetPart, tapePart}
 use Rattle.day_split.specs.Laws.Parts
+use Rattle.day_split.specs.Laws.Lines as SplitLines
 use Rattle.day_input.specs.Opening.{INPUT-BYTES, opens, refused, sheetReading, opening}
+use Rattle.tape.specs.Tape.{tapeRead}
+use Rattle.tape.specs.Laws.Column as TapeColumn
+use Rattle.faulty_line.specs.Part.{hasLine, tapesEnd, faultyPart, shown, bothLines, partAt}
+use Rattle.faulty_line.specs.Laws.Shown
+use Rattle.printed_frames.specs.Frames.{refusalLine}
+use Rattle.printed_frames.specs.Back.{ReadsBack}
+use Rattle.printed_frames.specs.Laws.Back as PrintedBack
 use Rattle.resend.specs.declared.Resent.{Resent}
 use Rattle.resend.specs.Resend.{ResendOutcome}
 use Rattle.day_lines.specs.Lines.{OUTPUT-BYTES}
@@ -65,10 +84,12 @@ use Rattle.day_print.specs.Day.{Prints, DayOutcome, written}
 use Rattle.examples.specs.Example.{Said}
 use Rattle.examples.specs.Table.{table}
 use Rattle.examples.specs.Laws.Said.{all-say}
-use Rattle.claims.specs.Words.{ReadsInOrder, Ordered, WriteLengths, SentBack, SolvesFor, countIn, noPeriodics, noTriggers, looped, workedSheet, worked, asked}
+use Rattle.claims.specs.Words.{ReadsInOrder, Ordered, WriteLengths, SentBack, SolvesFor, countIn, Shows, EndMissing, NoColumn, noPeriodics, noTriggers, looped, workedSheet, worked, asked, mistyped, EachRefused}
 use Rattle.claims.specs.Laws.Numbers
 use Rattle.claims.specs.Laws.Reader
 use Rattle.claims.specs.Laws.ComesBack as Back
+use Rattle.claims.specs.Laws.Columns
+use Rattle.claims.specs.Laws.Worked
 use Rattle.claims.specs.Laws.Writer
 use Rattle.claims.specs.Laws.RoundTrips
 use Rattle.claims.specs.Laws.Step
@@ -89,7 +110,7 @@ numbers-are n l m = let x = Numbers.number-each n l m in (x .0, x .1, λ other e
 pub no-other : (name : Name) → (1 ≤ numberOf name) × (numberOf name ≤ 10)
 no-other = Numbers.no-other
 
--- The number and the place say which verdict was given.
+-- The number, the place and the column say which verdict was given.
 pub one-verdict : (v w : Verdict) → answered v ≡ answered w → v ≡ w
 one-verdict = Numbers.answered-once
 
@@ -136,7 +157,7 @@ pub reader-order : (sheet p t : List ℕ) (s : Progress) → ReadsInOrder sheet 
 reader-order = Reader.reader-order
 
 -- The reader's answer to bytes is number 8 (LOOP) and place k exactly when they read in good order and their loop is at k;
-pub reader-loops : (sheet p t : List ℕ) (k : ℕ) → (answered (verdictOf (reading sheet p t .answer)) ≡ record { number = 8; place = k }) ↔ ((s : Progress) × ReadsInOrder sheet p t s × LoopAt (sheetRead s) k)
+pub reader-loops : (sheet p t : List ℕ) (k : ℕ) → (answered (verdictOf (reading sheet p t .answer)) ≡ record { number = 8; place = k; column = 0 }) ↔ ((s : Progress) × ReadsInOrder sheet p t s × LoopAt (sheetRead s) k)
 reader-loops = Reader.reader-loops
 
 -- then the tables are as they came.
@@ -144,7 +165,7 @@ pub reader-loop-keeps : (sheet p t : List ℕ) (s : Progress) → ReadsInOrder s
 reader-loop-keeps = Reader.refuses-loop
 
 -- It is number 0 (OK) and place 0 exactly when they read in good order and have none;
-pub reader-accepts : (sheet p t : List ℕ) → (answered (verdictOf (reading sheet p t .answer)) ≡ record { number = 0; place = 0 }) ↔ ((s : Progress) × ReadsInOrder sheet p t s × NoLoop (sheetRead s))
+pub reader-accepts : (sheet p t : List ℕ) → (answered (verdictOf (reading sheet p t .answer)) ≡ record { number = 0; place = 0; column = 0 }) ↔ ((s : Progress) × ReadsInOrder sheet p t s × NoLoop (sheetRead s))
 reader-accepts = Reader.reader-accepts
 
 -- then what was read is handed out.
@@ -152,11 +173,11 @@ pub reader-hands-out : (sheet p t : List ℕ) (s : Progress) → ReadsInOrder sh
 reader-hands-out = Reader.accepts-none
 
 -- A step's answer is number 8 and place k exactly when all that is tested before LOOP is in order and the loop of the lent rows is at k,
-pub step-loops : (R : Rules) (q : Asked) (l : Lent) (v : Verdict) (a : Lent) → Outcome R q l v a → (k : ℕ) → (answered v ≡ record { number = 8; place = k }) ↔ (Ordered R q l × LoopAt (sheetIn R) k)
+pub step-loops : (R : Rules) (q : Asked) (l : Lent) (v : Verdict) (a : Lent) → Outcome R q l v a → (k : ℕ) → (answered v ≡ record { number = 8; place = k; column = 0 }) ↔ (Ordered R q l × LoopAt (sheetIn R) k)
 step-loops = Step.step-loops
 
 -- and number 0 and place 0 exactly when that is in order, there is no loop, and each request is within its limits.
-pub step-ok : (R : Rules) (q : Asked) (l : Lent) (v : Verdict) (a : Lent) → Outcome R q l v a → (answered v ≡ record { number = 0; place = 0 }) ↔ (Ordered R q l × NoLoop (sheetIn R) × AllFit (R .counts .roles) q)
+pub step-ok : (R : Rules) (q : Asked) (l : Lent) (v : Verdict) (a : Lent) → Outcome R q l v a → (answered v ≡ record { number = 0; place = 0; column = 0 }) ↔ (Ordered R q l × NoLoop (sheetIn R) × AllFit (R .counts .roles) q)
 step-ok = Step.step-ok
 
 -- From the empty start, over any run of accepted steps under one sheet, events and roles are the paper's: whatever stands in unused places of the tables that are lent to each, and whatever
@@ -194,7 +215,7 @@ reader-says = Back.reader-says
 -- So a refusal at k with a name other than LENGTH and LOOP says, and is given exactly when: lines 1 to k − 1 pass all their tests, and line k fails the test of that name and passes those
 -- before it; or it is the last and has no final 0A, FRAME; or there is no line k and no end frame, KIND.
 pub reader-refuses : (sheet p t : List ℕ) (name : Name) (k : ℕ) → ¬ (name ≡ LENGTH) → ¬ (name ≡ LOOP)
-    → (reading sheet p t ≡ readOutcome (Refused (refusal name k)) p t)
+    → (reading sheet p t ≡ readOutcome (Refused (refusalAt (linesIn sheet) (restIn sheet) name k)) p t)
     ↔ (LengthsFit sheet p t × RefusedAt (linesIn sheet) (restIn sheet) name k)
 reader-refuses = Back.reader-refuses
 
@@ -228,18 +249,18 @@ pub day-prints : (input out : List ℕ) (r : Printed) (out′ : List ℕ) → le
     → Prints (opening input) (written r out′) × ((other : List ℕ) → Prints (opening input) other → other ≡ written r out′)
 day-prints = Day.day-prints
 
--- The answer is number 0 (OK) and place 0 exactly when the input opens: its sheet, its requests and its last instant are there.
+-- The answer is number 0 (OK), place 0 and column 0 exactly when the input opens: its sheet, its requests and its last instant are there.
 pub day-ok : (input out : List ℕ) (r : Printed) (out′ : List ℕ) → length out ≡ OUTPUT-BYTES → DayOutcome input out r out′
-    → (answered (r .verdict) ≡ record { number = 0; place = 0 }) ↔ ((sh : Sheet) × (RQ : Stream) × (last : ℕ) × (opening input ≡ opens sh RQ last))
+    → (answered (r .verdict) ≡ record { number = 0; place = 0; column = 0 }) ↔ ((sh : Sheet) × (RQ : Stream) × (last : ℕ) × (opening input ≡ opens sh RQ last))
 day-ok = Day.day-ok
 
--- It is another number n and place k exactly when the input is refused with that number and that place.
+-- It is another number n, place k and column m exactly when the input is refused with that number, that place and that column.
 pub day-refuses : (input out : List ℕ) (r : Printed) (out′ : List ℕ) → length out ≡ OUTPUT-BYTES → DayOutcome input out r out′
-    → (n k : ℕ) → 1 ≤ n → (answered (r .verdict) ≡ record { number = n; place = k }) ↔ ((x : Refusal) × (opening input ≡ refused x) × (numberOf (x .name) ≡ n) × (x .place ≡ k))
+    → (n k m : ℕ) → 1 ≤ n → (answered (r .verdict) ≡ record { number = n; place = k; column = m }) ↔ ((x : Refusal) × (opening input ≡ refused x) × (numberOf (x .name) ≡ n) × (x .place ≡ k) × (x .column ≡ m))
 day-refuses = Day.day-refuses
 
--- With a buffer of another length it is number 1 (LENGTH) and place 0.
-pub day-length : (input out : List ℕ) (r : Printed) (out′ : List ℕ) → (length out ≡ OUTPUT-BYTES → ⊥) → DayOutcome input out r out′ → answered (r .verdict) ≡ record { number = 1; place = 0 }
+-- With a buffer of another length it is number 1 (LENGTH), place 0 and column 0.
+pub day-length : (input out : List ℕ) (r : Printed) (out′ : List ℕ) → (length out ≡ OUTPUT-BYTES → ⊥) → DayOutcome input out r out′ → answered (r .verdict) ≡ record { number = 1; place = 0; column = 0 }
 day-length = Day.day-length
 
 -- ==== THE P TABLE: every bench example that document 01 marks P says what is true.
@@ -249,12 +270,12 @@ p-table = all-say
 -- ==== SHUT OUT, as 'How far a contract must go' lists it.
 
 -- A box that refuses everything: the answer to the worked sheet is 0 and 0, and its rows are handed out.
-pub not-all-refused : (answered (verdictOf (reading workedSheet noPeriodics noTriggers .answer)) ≡ record { number = 0; place = 0 })
+pub not-all-refused : (answered (verdictOf (reading workedSheet noPeriodics noTriggers .answer)) ≡ record { number = 0; place = 0; column = 0 })
     × (reading workedSheet noPeriodics noTriggers ≡ readOutcome (Good (record { roles = 3; periodics = 1; triggers = 2 })) (worked .tables .periodics) (worked .tables .triggers))
 not-all-refused = (ap (λ (o : ReadOutcome). answered (verdictOf (o .answer))) (Shut.is-worked .read), Shut.is-worked .read)
 
 -- A test that passes everything: the answer to "enable 0 gives disable 0" is 8 and 0, and the tables are as they came.
-pub not-all-passed : (answered (verdictOf (reading looped noPeriodics noTriggers .answer)) ≡ record { number = 8; place = 0 })
+pub not-all-passed : (answered (verdictOf (reading looped noPeriodics noTriggers .answer)) ≡ record { number = 8; place = 0; column = 0 })
     × (reading looped noPeriodics noTriggers ≡ readOutcome (Refused (refusal LOOP 0)) noPeriodics noTriggers)
 not-all-passed = (ap (λ (o : ReadOutcome). answered (verdictOf (o .answer))) Looped.not-all-passed, Looped.not-all-passed)
 
@@ -301,7 +322,7 @@ pub writer-unused : (R R′ : Rules) → SameRules R R′ → (out : List ℕ) (
 writer-unused = Writer.writer-used
 
 -- The answer is number 1 (LENGTH) and place 0 where a table or the buffer has not its exact length;
-pub writer-length : (R : Rules) (out : List ℕ) (r : Sent) (out′ : List ℕ) → WriteOutcome R out r out′ → ¬ WriteLengths R out → answered (r .verdict) ≡ record { number = 1; place = 0 }
+pub writer-length : (R : Rules) (out : List ℕ) (r : Sent) (out′ : List ℕ) → WriteOutcome R out r out′ → ¬ WriteLengths R out → answered (r .verdict) ≡ record { number = 1; place = 0; column = 0 }
 writer-length = Writer.writer-length
 
 -- else it is the one verdict that says what is so of the tables (`Says`, table_judge/Says): TOO MANY at 0, FIELD at 0 for the role count or at the first bad row, LOOP at the pair, or OK.
@@ -316,12 +337,12 @@ writer-as-step = Writer.writer-as-step
 
 -- So it is number 8 and place k exactly when the lengths are right, the rows are in good order and their loop is at k,
 pub writer-loops : (R : Rules) (out : List ℕ) (r : Sent) (out′ : List ℕ) → WriteOutcome R out r out′
-    → (k : ℕ) → (answered (r .verdict) ≡ record { number = 8; place = k }) ↔ (WriteLengths R out × GoodOrder (sheetIn R) × LoopAt (sheetIn R) k)
+    → (k : ℕ) → (answered (r .verdict) ≡ record { number = 8; place = k; column = 0 }) ↔ (WriteLengths R out × GoodOrder (sheetIn R) × LoopAt (sheetIn R) k)
 writer-loops = Writer.writer-loops
 
 -- and number 0 and place 0 exactly when the lengths are right, the rows are in good order and there is no loop.
 pub writer-ok : (R : Rules) (out : List ℕ) (r : Sent) (out′ : List ℕ) → WriteOutcome R out r out′
-    → (answered (r .verdict) ≡ record { number = 0; place = 0 }) ↔ (WriteLengths R out × GoodOrder (sheetIn R) × NoLoop (sheetIn R))
+    → (answered (r .verdict) ≡ record { number = 0; place = 0; column = 0 }) ↔ (WriteLengths R out × GoodOrder (sheetIn R) × NoLoop (sheetIn R))
 writer-ok = Writer.writer-ok
 
 -- Every written sheet fits: it has at most 12,692 bytes.
@@ -339,7 +360,7 @@ pub reads-what-was-written : (R : Rules) (out : List ℕ) (r : Sent) (out′ : L
 reads-what-was-written = RoundTrips.reads-what-was-written
 
 -- WRITING WHAT WAS READ: every accepted sheet is sent back, as exactly one text (`SentBack`, Words): what the writer writes of what the reader handed out.
-pub sent-back : (sheet p t : List ℕ) → answered (verdictOf (reading sheet p t .answer)) ≡ record { number = 0; place = 0 } → ExactlyOne (SentBack sheet)
+pub sent-back : (sheet p t : List ℕ) → answered (verdictOf (reading sheet p t .answer)) ≡ record { number = 0; place = 0; column = 0 } → ExactlyOne (SentBack sheet)
 sent-back = RoundTrips.sent-one
 
 -- It is the sheet's header line, its periodic lines in their order, its trigger lines in their order and its end line, each byte for byte as it stood;
@@ -366,7 +387,7 @@ resend-verdict = RoundTrips.resend-verdict
 
 -- else the answer is number 1 (LENGTH) and place 0.
 pub resend-length : (input out : List ℕ) (r : Resent) (out′ : List ℕ) → ResendOutcome input out r out′
-    → ¬ ((length input ≤ INPUT-BYTES) × (length out ≡ SHEET-BYTES)) → answered (r .verdict) ≡ record { number = 1; place = 0 }
+    → ¬ ((length input ≤ INPUT-BYTES) × (length out ≡ SHEET-BYTES)) → answered (r .verdict) ≡ record { number = 1; place = 0; column = 0 }
 resend-length = RoundTrips.resend-length
 
 -- After a refusal nothing is written, and the buffer is what it was.
@@ -390,3 +411,100 @@ resend-same = RoundTrips.resend-same
 -- An example, and what shuts out a writer that writes nothing: of the worked sheet's tables the worked sheet's own bytes are written.
 pub worked-is-written : (out : List ℕ) → length out ≡ SHEET-BYTES → (r : Sent) (out′ : List ℕ) → WriteOutcome worked out r out′ → take (r .length) out′ ≡ workedSheet
 worked-is-written out whole r out′ o = RoundTrips.writes-what-was-read workedSheet noPeriodics noTriggers _ _ _ (Shut.is-worked .read) out whole r out′ o .1 ∙ RoundTrips.worked-in-order
+
+-- ==== REQUEST 2, SHOW ME THE LINE AND THE COLUMN: what the column of a refusal says (`ColumnSays`, line_readers/Says), the line for the screen (`faultyPart`, faulty_line/Part), and E0. `reading`, `opening` and
+-- what a day prints hold the column, so that the theorems above say that it is the one.
+
+-- The column of a sheet's refusal, in the line of its place: FRAME, the first character that is no digit, all before it are; or, where all are, one past the last. CHECK, the last digit but one.
+-- FIELD, the first digit of a field that is outside its limit while all fields before it are within. Any other, LENGTH and LOOP among them, 0.
+pub reader-column : (sheet p t : List ℕ) (r : Refusal) → reading sheet p t ≡ readOutcome (Refused r) p t
+    → ColumnSays (r .name) (faultyLine (linesIn sheet) (restIn sheet) (r .place))
+    (FieldColumn (roleCount (framesBefore (linesIn sheet) (r .place))) (bytesOf (faultyLine (linesIn sheet) (restIn sheet) (r .place)))) (r .column)
+reader-column = Columns.reader-column
+
+-- Each kind of frame has one list of tests, one a field: FIELD is given exactly where one of them fails, and its column is by the first that does (`FieldColumn`).
+pub field-tests : (k roles : ℕ) (f : List ℕ) → frameFits k roles f ≡ all (frameTests k roles f)
+field-tests = Fields.frame-tests
+
+-- The test of each field looks at the bytes where that field stands. A header's are byte 1, the version, and byte 2, the role count;
+pub header-bytes : (roles : ℕ) (f : List ℕ) → frameTests HEADER roles f ≡ eqb (byteAt f 1) VERSION ∷ (leb 1 (byteAt f 2) && leb (byteAt f 2) ROLES) ∷ []
+header-bytes = FieldBytes.header-bytes
+
+-- a periodic row's: begin from byte 1 on, end from 5, period from 9, first from 11, run from 13, event 15, priority 16;
+pub periodic-bytes : (roles : ℕ) (f : List ℕ) → frameTests PERIODIC roles f
+    ≡ leb (four f 1) LAST-INSTANT
+    ∷ endFits (four f 1) (four f 5)
+    ∷ (leb 1 (two f 9) && leb (two f 9) LONGEST-PERIOD)
+    ∷ ltb (two f 11) (two f 9)
+    ∷ (leb 1 (two f 13) && leb (two f 13) (two f 9))
+    ∷ ofRoles roles (byteAt f 15)
+    ∷ isPriority (byteAt f 16)
+    ∷ []
+periodic-bytes = FieldBytes.periodic-bytes
+
+-- a trigger's: the counts at 1 and 2, and where these are within their limits, the events and then the conditions from 3 on, head, priority and delay after them.
+pub trigger-bytes : (roles : ℕ) (f : List ℕ) → byteAt f 1 ≤ BODY-EVENTS → byteAt f 2 ≤ BODY-CONDITIONS → frameTests TRIGGER roles f
+    ≡ (leb 1 (byteAt f 1) && leb (byteAt f 1) BODY-EVENTS) ∷ leb (byteAt f 2) BODY-CONDITIONS ∷ (testsBelow (byteAt f 1 + byteAt f 2) (λ j. ofRoles roles (byteAt f (3 + j)))
+    ++ eventTests roles (byteAt f (3 + byteAt f 1 + byteAt f 2)) (byteAt f (3 + byteAt f 1 + byteAt f 2 + 1)) (byteAt f (3 + byteAt f 1 + byteAt f 2 + 2)))
+trigger-bytes = FieldBytes.trigger-bytes
+
+-- So the fields begin in these columns: a header's at 3 and 5; a periodic row's at 3, 11, 19, 23, 27, 31 and 33; a trigger's one after the other, two digits each, from 3 on.
+pub field-columns : (map (λ (i : ℕ). 2 * fieldByte HEADER i + 1) (0 ∷ 1 ∷ []) ≡ 3 ∷ 5 ∷ [])
+    × (map (λ (i : ℕ). 2 * fieldByte PERIODIC i + 1) (0 ∷ 1 ∷ 2 ∷ 3 ∷ 4 ∷ 5 ∷ 6 ∷ []) ≡ 3 ∷ 11 ∷ 19 ∷ 23 ∷ 27 ∷ 31 ∷ 33 ∷ [])
+    × ((i : ℕ) → 2 * fieldByte TRIGGER i + 1 ≡ 3 + 2 * i)
+field-columns = (refl, refl, λ i. omega arith)
+
+-- A tape's refusal is at one of its lines, counted on from the sheet's, with its column: FRAME and CHECK as in a sheet, FIELD at the instant, column 3, any other 0. Or it is KIND at the line after the last.
+pub tape-column : (roles before : ℕ) (tape : List ℕ) (r : Refusal) → tapeRead roles before tape ≡ stopped r
+    → FaultyAt (λ k. k ≡ 3) (allLines (lines tape)) before r ⊎ (r ≡ refusal KIND (before + length (allLines (lines tape)) + 1))
+tape-column = TapeColumn.tape-faulty
+
+-- In a step there is no line, and no column.
+pub step-column : (R : Rules) (q : Asked) (l : Lent) (v : Verdict) (a : Lent) → Outcome R q l v a → NoColumn v
+step-column R q l v a o = subst NoColumn (sym (o .judged)) (Columns.step-none R q l)
+
+-- The line for the screen holds, of any two texts, the line of the refusal's place, of the lines of the sheet and then of the tape;
+pub line-shown : (sheet tape : List ℕ) (r : Refusal) → hasLine (r .name) ≡ true → (n : ℕ) → r .place ≡ suc n → n < length (bothLines sheet tape)
+    → shown (faultyPart sheet tape r) sheet tape ≡ getD (bothLines sheet tape) n []
+line-shown = Shown.shows-line
+
+-- it is a part of the sheet where the sheet has so many lines, and else of the tape, and it stands where that line does, from its first byte up to its 0A or the end: an empty line too, and the second of two equal ones;
+pub part-of-sheet : (sheet tape : List ℕ) (r : Refusal) → hasLine (r .name) ≡ true → (n : ℕ) → r .place ≡ suc n → n < length (allLines (lines sheet))
+    → faultyPart sheet tape r ≡ partAt false (allLines (lines sheet)) n
+part-of-sheet = Shown.part-of-sheet
+
+pub part-of-tape : (sheet tape : List ℕ) (r : Refusal) → hasLine (r .name) ≡ true → (m : ℕ) → r .place ≡ suc (length (allLines (lines sheet)) + m) → m < length (allLines (lines tape))
+    → faultyPart sheet tape r ≡ partAt true (allLines (lines tape)) m
+part-of-tape = Shown.part-of-tape
+
+-- and where the place is no line, is 0 or is past the last, it is the empty part at the tape's end.
+pub line-not-shown : (sheet tape : List ℕ) (r : Refusal) → ¬ ((hasLine (r .name) ≡ true) × (1 ≤ r .place) × (r .place ≤ length (bothLines sheet tape))) → faultyPart sheet tape r ≡ tapesEnd tape
+line-not-shown = Columns.not-shown
+
+-- Of an input that is refused with a column the line is there, and the column lies in it or one past its end. (The part that is shown is empty only where the line is.) The lines of the two parts are those of the input.
+pub line-there : (input : List ℕ) (r : Refusal) → opening input ≡ refused r → ¬ (r .column ≡ 0) → Shows (sheetPart input) (tapePart input) r
+line-there = Columns.line-there
+
+pub lines-of-both : (input : List ℕ) → bothLines (sheetPart input) (tapePart input) ≡ allLines (lines input)
+lines-of-both = SplitLines.both-lines
+
+-- The same of a sheet that the reader refuses, whatever tape is beside it.
+pub reader-shows : (sheet tape : List ℕ) (r : Refusal) (p t : List ℕ) → reading sheet p t ≡ readOutcome (Refused r) p t → ¬ (r .column ≡ 0) → Shows sheet tape r
+reader-shows = Columns.reader-shows
+
+-- And of any refusal of an input that is at a line, with a column or without: the line is there, or it is the one after the last, where an end is missing.
+pub line-or-end : (input : List ℕ) (r : Refusal) → opening input ≡ refused r → hasLine (r .name) ≡ true
+    → Shows (sheetPart input) (tapePart input) r ⊎ ((n : ℕ) × (n ≤ length (allLines (lines input))) × EndMissing n r)
+line-or-end = Columns.line-or-end
+
+-- E0 reads back, number, place and column, wherever the last two are below 2 to the power 32;
+pub refusal-reads : (r : Refusal) → r .place < 2 ^ 32 → r .column < 2 ^ 32 → (more : List ℕ) → (l : List ℕ) × (lines (refusalLine r ++ more) ≡ line l (lines more)) × ReadsBack l r
+refusal-reads = PrintedBack.refusal-reads
+
+-- and of any refusal of an input they are.
+pub numbers-small : (input : List ℕ) (r : Refusal) → opening input ≡ refused r → (r .place < 2 ^ 32) × (r .column < 2 ^ 32)
+numbers-small = Columns.numbers-small
+
+-- Eight mistyped sheets, each refused at its line and in its column.
+pub mistyped-refused : EachRefused mistyped
+mistyped-refused = Worked.mistyped-refused

@@ -10,20 +10,22 @@ use Prim.Native.Nat.{ℕ, _+_, _*_, _≤_, _<_}
 use lib.Dec.{eqb}
 use lib.ListN.{drop, getD, length}
 use lib.Seq.{paste}
-use Rattle.theory.specs.Below.{anyBelow, countBelow, one}
+use Rattle.theory.specs.Below.{anyBelow, countBelow, one, firstFailing}
 use Rattle.theory.specs.Events.{conf, nonblocked}
 use Rattle.theory.specs.Graph.{Levels, counts, node}
 use Rattle.theory.specs.Instant.{allows, met}
 use Rattle.theory.specs.LoopTest.{through}
 use Rattle.theory.specs.Numbers.{EVENTS, ROLES}
-use Rattle.theory.specs.Sheet.{GoodOrder, ofRoles, periodicFits, triggerFits}
+use Rattle.theory.specs.Sheet.{GoodOrder, ofRoles, periodicTests, periodicFits, triggerTests, triggerFits}
 use Rattle.theory.specs.Laws.Exact.{exact}
 use Rattle.answers.specs.declared.Name.{Name}
 use Rattle.answers.specs.declared.Refusal.{Refusal}
 use Rattle.answers.specs.declared.Verdict.{Verdict}
 use Rattle.line_readers.specs.declared.Tests.{Tests}
-use Rattle.answers.specs.Answers.{andThen, answered, numberOf, refusal, refuse}
+use Rattle.answers.specs.Answers.{andThen, answered, inColumn, numberOf, refusal, refuse}
+use Rattle.line_readers.specs.Column.{inLine}
 use Rattle.line_readers.specs.Order.{inOrder}
+use Rattle.faulty_line.specs.Part.{faultyPart, shown}
 use Rattle.tables.specs.Asked.{flat, requestAt}
 use Rattle.tables.specs.Buffers.{bit, eventsOf, rolesOf}
 use Rattle.tables.specs.declared.Counts.{Counts}
@@ -43,7 +45,7 @@ use Rattle.edges.specs.Drawing.{addedFrom, drawsBelow, tailOf}
 use Rattle.loops.specs.Tested.{tested}
 use Rattle.row_judge.specs.Judge.{judgeRows}
 use Rattle.table_judge.specs.Judged.{judged, loopJudged}
-use Rattle.text.specs.Framed.{framed}
+use Rattle.text.specs.Framed.{framed, frameColumn}
 use Rattle.text.specs.Lines.{lines, span}
 use Rattle.frames.specs.Frame.{bytesOf, checked}
 use Rattle.prints.specs.Print.{lineOf}
@@ -53,7 +55,7 @@ use Rattle.trigger_frames.specs.Row.{triggerRow}
 use Rattle.kinds.specs.declared.Stage.{Stage}
 use Rattle.kinds.specs.Kinds.{mayStand, sized}
 use Rattle.row_counts.specs.Counts.{countsAgree, roomFor}
-use Rattle.fields.specs.Fields.{frameFits}
+use Rattle.fields.specs.Fields.{frameFits, badByte}
 use Rattle.sheet_tests.specs.declared.Seen.{Seen}
 use Rattle.sheet_tests.specs.Judge.{judgeLine}
 use Rattle.sheet_acts.specs.Acts.{after, progress}
@@ -135,6 +137,10 @@ parts C x r r′ t t′ roles roles′ w w′ v v′ h h′ =
 -- answers::refusal_of
 pub answers-refusal-of : (name : Name) (place : ℕ) → Exact (λ r. r ≡ refusal name place)
 answers-refusal-of name place r r′ = exact
+
+-- answers::in_column
+pub answers-in-column : (r : Refusal) (column : ℕ) → Exact (λ x. x ≡ inColumn column r)
+answers-in-column r column x x′ = exact
 
 -- answers::refuse
 pub answers-refuse : (name : Name) (place : ℕ) → Exact (λ r. r ≡ refuse name place)
@@ -224,11 +230,19 @@ triggers-counts-at triggers i r r′ h h′ = exact (h 0) (h′ 0)
 pub periodic-limits-of-roles : (roles e : ℕ) → Exact (λ r. r ≡ ofRoles roles e)
 periodic-limits-of-roles roles e r r′ = exact
 
+-- periodic_limits::first_bad_periodic
+pub periodic-limits-first-bad-periodic : (w : PeriodicRow) (roles : ℕ) → Exact (λ r. r ≡ firstFailing (periodicTests roles (periodicOf w)))
+periodic-limits-first-bad-periodic w roles r r′ = exact
+
 -- periodic_limits::periodic_fits
 pub periodic-limits-periodic-fits : (w : PeriodicRow) (roles : ℕ) → Exact (λ r. r ≡ periodicFits roles (periodicOf w))
 periodic-limits-periodic-fits w roles r r′ = exact
 
 -- ---- trigger_limits
+
+-- trigger_limits::first_bad_trigger
+pub trigger-limits-first-bad-trigger : (table : List ℕ) (i roles : ℕ) → Exact (λ r. r ≡ firstFailing (triggerTests roles (triggerAt table i)))
+trigger-limits-first-bad-trigger table i roles r r′ = exact
 
 -- trigger_limits::trigger_fits
 pub trigger-limits-trigger-fits : (table : List ℕ) (i roles : ℕ) → Exact (λ r. r ≡ triggerFits roles (triggerAt table i))
@@ -318,6 +332,10 @@ text-line-end text at r r′ = exact
 pub text-is-framed : (line : List ℕ) → Exact (λ r. r ≡ framed line)
 text-is-framed line r r′ = exact
 
+-- text::frame_column
+pub text-frame-column : (line : List ℕ) → Exact (λ r. r ≡ frameColumn line)
+text-frame-column line r r′ = exact
+
 -- ---- frames
 
 -- frames::byte_at
@@ -345,6 +363,20 @@ frames-is-checked line r r′ = exact
 -- line_readers::in_order
 pub line-readers-in-order : (tests : Tests) (name : Name) (place : ℕ) → Exact (λ r. r ≡ inOrder tests name place)
 line-readers-in-order tests name place r r′ = exact
+
+-- line_readers::in_line
+pub line-readers-in-line : (r : Refusal) (line : List ℕ) (field : ℕ) → Exact (λ x. x ≡ inLine line field r)
+line-readers-in-line r line field x x′ = exact
+
+-- ---- faulty_line
+
+-- faulty_line::faulty_part
+pub faulty-line-faulty-part : (sheet tape : List ℕ) (r : Refusal) → Exact (λ p. p ≡ faultyPart sheet tape r)
+faulty-line-faulty-part sheet tape r p p′ = exact
+
+-- faulty_line::faulty_line
+pub faulty-line-faulty-line : (sheet tape : List ℕ) (r : Refusal) → Exact (λ l. l ≡ shown (faultyPart sheet tape r) sheet tape)
+faulty-line-faulty-line sheet tape r l l′ = exact
 
 -- ---- prints
 
@@ -395,6 +427,10 @@ row-counts-end-agrees line k periodics triggers r r′ = exact
 -- fields::frame_fits
 pub fields-frame-fits : (k roles : ℕ) (line : List ℕ) → Exact (λ r. r ≡ frameFits k roles (bytesOf line))
 fields-frame-fits k roles line r r′ = exact
+
+-- fields::bad_byte
+pub fields-bad-byte : (k roles : ℕ) (line : List ℕ) → Exact (λ r. r ≡ badByte k roles (bytesOf line))
+fields-bad-byte k roles line r r′ = exact
 
 -- ---- sheet_tests
 
@@ -628,7 +664,8 @@ day-print-day = day-print.day-exact
 -- instant::act asks `Levels (sheetOf roleCount (counts .periodics) (counts .triggers) periodics triggers) (byteAt levels)`: likewise.
 
 -- ==== WHAT SOME ASK. These are public only because a crate ends there: each asks something of its callers, the functions named, which have shown it. Each is exact as it stands above,
--- whatever it is called with. Whoever uses the box calls reader::read_sheet, writer::write_sheet, step::step, entry::step_requests, resend::resend or day_print::day, which ask nothing.
+-- whatever it is called with. Whoever uses the box calls reader::read_sheet, writer::write_sheet, step::step, entry::step_requests, resend::resend,
+-- faulty_line::faulty_line, faulty_line::faulty_part or day_print::day, which ask nothing.
 -- tables::copy_in asks that the row fits: sheet_acts::put_periodic, sheet_acts::put_trigger, reader::copy_out.
 -- prints::put_line asks that the line fits: printed_frames::refusal_line, writer::put, day_print::run.
 -- keys::chains asks for at most 256 triggers: solver::by_keys.

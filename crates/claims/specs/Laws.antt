@@ -2,6 +2,8 @@
 pub mod Numbers
 pub mod Reader
 pub mod ComesBack
+pub mod Columns
+pub mod Worked
 pub mod Writer
 pub mod RoundTrips
 pub mod Step

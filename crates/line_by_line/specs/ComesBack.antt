@@ -1,4 +1,4 @@
--- Reading as document 01 says it: LENGTH, then line by line from 1, and after the last line LOOP. What is refused at which line, what reads whole, and what the tables hold then.
+-- Reading as document 01 says it: LENGTH, then line by line from 1, and after the last line LOOP. What is refused at which line and in which column, what reads whole, and what the tables hold then.
 -- Assumes nothing.
 use mathlib.Core.Path.{_≡_}
 use mathlib.Core.Bool.{true, cond}
@@ -11,7 +11,9 @@ use Rattle.theory.specs.Sheet.{Sheet}
 use Rattle.theory.specs.Graph.{NoLoop, LoopAt}
 use Rattle.answers.specs.declared.Name.{Name}
 use Rattle.answers.specs.declared.Name.the-variants.{Length, Frame, Kind, Loop}
-use Rattle.answers.specs.Answers.{refusal}
+use Rattle.answers.specs.declared.Refusal.{Refusal}
+use Rattle.answers.specs.Answers.{refusal, inColumn}
+use Rattle.line_readers.specs.Column.{columnOf}
 use Rattle.frames.specs.Frame.{bytesOf}
 use Rattle.tables.specs.declared.Counts.{Counts}
 use Rattle.tables.specs.Layout.{PERIODIC-TABLE, TRIGGER-TABLE, padded}
@@ -22,7 +24,7 @@ use Rattle.kinds.specs.Kinds.{PERIODIC, TRIGGER, END, kind}
 use Rattle.reader.specs.declared.Reading.the-variants.{Good, Refused}
 use Rattle.reader.specs.Out.{ReadOutcome, readOutcome}
 use Rattle.line_by_line.specs.Lines.{linesIn, restIn}
-use Rattle.line_by_line.specs.Tests.{howMany, roleCount, order, allPass, FirstFails}
+use Rattle.line_by_line.specs.Tests.{howMany, roleCount, order, allPass, FirstFails, badField}
 
 -- ---- lines and their frames
 
@@ -62,6 +64,16 @@ pub record RefusedAt (ls : List (List ℕ)) (rest : List ℕ) (name : Name) (k :
   pub from-1 : 1 ≤ k
   pub before : (j : ℕ) → 1 ≤ j → j < k → Passes ls j
   pub fault : Fault ls rest name k
+
+-- THE FAULTY LINE, k: one of the lines, or what stands after the last 0A
+abbrev pub faultyLine : List (List ℕ) → List ℕ → ℕ → List ℕ
+faultyLine ls rest k = theLine (ls ++ rest ∷ []) k
+
+-- the refusal of this name at line k: its column is that of the name in the faulty line (line_readers/Column)
+abbrev pub refusalAt : List (List ℕ) → List ℕ → Name → ℕ → Refusal
+refusalAt ls rest name k =
+    let l : List ℕ = faultyLine ls rest k in
+    inColumn (columnOf name l (badField (framesBefore ls k) l)) (refusal name k)
 
 -- READS WHOLE: every line passes all its tests, nothing stands after the last 0A, and the end frame is there
 pub record ReadsWhole (ls : List (List ℕ)) (rest : List ℕ) : Type 0 where
@@ -107,8 +119,9 @@ framesIn sheet = framesOf (linesIn sheet)
 pub data ComesBack (sheet p t : List ℕ) (o : ReadOutcome) : Type 0 where
   -- LENGTH, at 0;
   by-length : ¬ LengthsFit sheet p t → o ≡ readOutcome (Refused (refusal Length 0)) p t → ComesBack sheet p t o
-  -- else a line is refused, with its name at its number;
-  at-line : (name : Name) (k : ℕ) → LengthsFit sheet p t → RefusedAt (linesIn sheet) (restIn sheet) name k → o ≡ readOutcome (Refused (refusal name k)) p t → ComesBack sheet p t o
+  -- else a line is refused, with its name at its number, in its column;
+  at-line : (name : Name) (k : ℕ) → LengthsFit sheet p t → RefusedAt (linesIn sheet) (restIn sheet) name k
+      → o ≡ readOutcome (Refused (refusalAt (linesIn sheet) (restIn sheet) name k)) p t → ComesBack sheet p t o
   -- else the sheet has a loop: LOOP, at the pair;
   by-loop : (k : ℕ) → LengthsFit sheet p t → ReadsWhole (linesIn sheet) (restIn sheet) → LoopAt (sheetSaid (framesIn sheet)) k → o ≡ readOutcome (Refused (refusal Loop k)) p t → ComesBack sheet p t o
   -- else OK, with the sheet's counts and tables

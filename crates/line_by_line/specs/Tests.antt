@@ -12,7 +12,7 @@ use Rattle.frames.specs.Frame.{bytesOf, checked}
 use Rattle.tables.specs.Layout.{byteAt, two}
 use Rattle.kinds.specs.Kinds.{HEADER, PERIODIC, TRIGGER, END, kind, sized}
 use Rattle.row_counts.specs.Counts.{roomFor, countsAgree}
-use Rattle.fields.specs.Fields.{frameFits}
+use Rattle.fields.specs.Fields.{frameFits, badByte}
 
 -- ---- what frames say, counted and looked up
 
@@ -39,7 +39,7 @@ inPlace (f ∷ fs) k = not (eqb k HEADER) && eqb (howMany END (f ∷ fs)) 0
 
 -- ---- the tests
 
--- THE TEST OF THIS NAME passes, of line l after these frames: FRAME by its characters, the others by its bytes. The four names that are no test of a line always pass.
+-- THE TEST OF THIS NAME passes, of line l after these frames: FRAME by its characters, the others by its bytes. The four names that are no test of a sheet's line always pass.
 unfoldable pub passes : Name → List (List ℕ) → List ℕ → Bool
 passes Frame before l = framed l
 passes Check before l = checked (bytesOf l)
@@ -68,3 +68,7 @@ pub record FirstFails (names : List Name) (name : Name) (before : List (List ℕ
   pub in-order : names ≡ earlier ++ name ∷ later
   pub passed : allPass earlier before l ≡ true
   pub failed : passes name before l ≡ false
+
+-- the byte at which the first bad field begins, of line l after these frames
+abbrev pub badField : List (List ℕ) → List ℕ → ℕ
+badField before l = badByte (kind (bytesOf l)) (roleCount before) (bytesOf l)

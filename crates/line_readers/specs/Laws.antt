@@ -1,3 +1,4 @@
 -- What is proved of them.
 pub mod Walks
 pub mod Order
+pub mod Column

@@ -8,6 +8,7 @@ use Rattle.answers.specs.declared.Verdict.{Verdict}
 use Rattle.answers.specs.declared.Verdict.the-variants.{Pass, Refused}
 use Rattle.answers.specs.Answers.{refusal}
 use Rattle.text.specs.Lines.{Lines, none, endless, line}
+use Rattle.line_readers.specs.Column.{inLine}
 
 -- reading goes on with what was read so far, or is refused
 pub data Going (A : Type 0) : Type 0 where
@@ -25,11 +26,11 @@ pub record Reader (A : Type 0) : Type 0 where
   pub takes : A → List ℕ → Going A
   pub ends : A → Going A
 
--- what comes of the lines from here on; a line with no final 0A is FRAME
+-- what comes of the lines from here on; a line with no final 0A is FRAME, whose column no field decides
 unfoldable pub walks : {A : Type 0} → Reader A → Going A → Lines → Going A
 walks R (refused r) none = refused r
 walks R (refused r) (endless l) = refused r
 walks R (refused r) (line l ls) = refused r
 walks R (goes s) none = R .ends s
-walks R (goes s) (endless l) = refused (refusal Frame (R .read s + 1))
+walks R (goes s) (endless l) = refused (inLine l 0 (refusal Frame (R .read s + 1)))
 walks R (goes s) (line l ls) = walks R (R .takes s l) ls

@@ -1,4 +1,4 @@
--- The frames that are printed, their check left out: numbers high byte first (document 01, 'The sheet' and 'The day program'). And the line that is printed of a refusal.
+-- The frames that are printed, their check left out: numbers high byte first (document 01, 'The sheet' and 'The day program'; document 02, [2]). And the line that is printed of a refusal.
 -- Assumes nothing.
 use mathlib.Core.List.{List, [], _∷_, _++_}
 use Prim.Native.Nat.{ℕ, zero, suc, _/_, _%_, _^_}
@@ -11,13 +11,13 @@ abbrev pub bytesIn : ℕ → ℕ → List ℕ
 bytesIn zero n = []
 bytesIn (suc k) n = (n / 256 ^ k) % 256 ∷ bytesIn k n
 
--- a refusal: E0, number 1, place 4
-abbrev pub refusalFrame : ℕ → ℕ → List ℕ
-refusalFrame number place = 0xe0 ∷ bytesIn 1 number ++ bytesIn 4 place
+-- a refusal: E0, number 1, place 4, column 4
+abbrev pub refusalFrame : ℕ → ℕ → ℕ → List ℕ
+refusalFrame number place column = 0xe0 ∷ bytesIn 1 number ++ (bytesIn 4 place ++ bytesIn 4 column)
 
--- as a line, with its check: of document 01's number and the place
+-- as a line, with its check: of document 01's number, the place and the column
 unfoldable pub refusalLine : Refusal → List ℕ
-refusalLine r = lineOf (refusalFrame (numberOf (r .name)) (r .place))
+refusalLine r = lineOf (refusalFrame (numberOf (r .name)) (r .place) (r .column))
 
 -- a minute: 50, instant 4, enabled roles after it 8, count 1
 abbrev pub minuteFrame : ℕ → ℕ → ℕ → List ℕ

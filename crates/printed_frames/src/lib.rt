@@ -36,11 +36,12 @@ pub fn minute_frame(instant: u32, roles: u64, count: u8) -> [u8; 14]
     ]
 }
 
-// The frame of a refusal: its number and its place.
-fn refusal_frame(number: u8, place: u32) -> [u8; 6]
-    ensures { λ r. ⌜ r ≡ refusalFrame number place ⌝ }
+// The frame of a refusal: its number, its place and its column.
+fn refusal_frame(number: u8, place: u32, column: usize) -> [u8; 10]
+    ensures { λ r. ⌜ r ≡ refusalFrame number place column ⌝ }
 {
     let p = long(place);
+    let c = column as u64;
     [
         0xe0,
         number,
@@ -48,16 +49,20 @@ fn refusal_frame(number: u8, place: u32) -> [u8; 6]
         byte_of(p, 0x10000),
         byte_of(p, 0x100),
         byte_of(p, 1),
+        byte_of(c, 0x1000000),
+        byte_of(c, 0x10000),
+        byte_of(c, 0x100),
+        byte_of(c, 1),
     ]
 }
 
 // The line that is printed of a refusal: its frame, the check and the line end.
-pub fn refusal_line(r: Refusal) -> [u8; 15]
+pub fn refusal_line(r: Refusal) -> [u8; 23]
     ensures { λ line. ⌜ line ≡ refusalLine r ⌝ }
 {
     let name = r.name;
-    let frame = refusal_frame(answers::number_of(name), r.place);
-    let mut line = [0u8; 15];
+    let frame = refusal_frame(answers::number_of(name), r.place, r.column);
+    let mut line = [0u8; 23];
     prints::put_line(&mut line, 0, &frame);
     line
 }

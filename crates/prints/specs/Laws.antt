@@ -3,3 +3,4 @@ pub mod Lengths
 pub mod Pasted
 pub mod Reads
 pub mod Back
+pub mod Numbers

@@ -103,7 +103,8 @@ fn read_lines(sheet: &[u8], periodics: &mut [u8], triggers: &mut [u8]) -> Taken
     while at < sheet.len() {
         let e = text::line_end(sheet, at);
         if e == sheet.len() {
-            return Taken::Refused(refusal_of(Name::Frame, s.line + 1));
+            let r = refusal_of(Name::Frame, s.line + 1);
+            return Taken::Refused(line_readers::in_line(r, &sheet[at..e], 0));
         }
         let w = take(&sheet[at..e], s, periodics, triggers);
         match w {

@@ -1,6 +1,8 @@
-// The tests of a line of a sheet, in order: FRAME, CHECK, KIND, TOO MANY, FIELD, COUNT. The first that fails refuses it, at the place handed in.
+// The tests of a line of a sheet, in order: FRAME, CHECK, KIND, TOO MANY, FIELD, COUNT. The first that fails refuses it, at the place handed in and in its column.
 ghost use mathlib.Core.Path.{_≡_};
-ghost use Rattle.sheet_tests.specs.Judge.{judgeLine};
+ghost use Rattle.answers.specs.declared.Name.the-variants.{Count};
+ghost use Rattle.line_readers.specs.Order.{inOrder};
+ghost use Rattle.sheet_tests.specs.Judge.{lineTests, judgeLine};
 use answers::Name;
 use answers::Verdict;
 use kinds::Stage;
@@ -15,8 +17,8 @@ pub struct Seen {
 }
 
 // The tests of a line, in order: FRAME, CHECK, KIND, TOO MANY, FIELD, COUNT.
-pub fn line_judged(line: &[u8], s: Seen, place: u32) -> Verdict
-    ensures { λ r. ⌜ r ≡ judgeLine place s (now (line .entry)) ⌝ }
+fn line_tested(line: &[u8], s: Seen, place: u32) -> Verdict
+    ensures { λ r. ⌜ r ≡ inOrder (lineTests s (now (line .entry))) Count place ⌝ }
 {
     let k = frames::byte_at(line, 0);
     let stage = s.stage;
@@ -38,4 +40,18 @@ pub fn line_judged(line: &[u8], s: Seen, place: u32) -> Verdict
         last: count,
     };
     line_readers::in_order(tests, Name::Count, place)
+}
+
+// The verdict on a line: the first of its tests that fails refuses it, in its column.
+pub fn line_judged(line: &[u8], s: Seen, place: u32) -> Verdict
+    ensures { λ r. ⌜ r ≡ judgeLine place s (now (line .entry)) ⌝ }
+{
+    let v = line_tested(line, s, place);
+    match v {
+        Verdict::Pass => Verdict::Pass,
+        Verdict::Refused(r) => {
+            let field = fields::bad_byte(frames::byte_at(line, 0), s.counts.roles, line);
+            Verdict::Refused(line_readers::in_line(r, line, field))
+        }
+    }
 }

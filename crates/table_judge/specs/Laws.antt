@@ -92,11 +92,11 @@ module _ (sh : Sheet) where
       (λ (n : (firstUnfit sh ≡ rowCount sh) × NoneBelow (rowCount sh) unfit).
       inl (sym (rows-fit sh _ refl _ refl f r _ refl (omega (arith, n .0))), good (few-says f) (roles-say r) (n .1)))
       (λ (u : FirstAt (rowCount sh) unfit (firstUnfit sh)).
-      inr (_, sym (rows-unfit sh _ refl _ refl f r _ refl (u .below)), (few-says f, inr (roles-say r, unfit-says (firstUnfit sh) u))))
+      inr (_, sym (rows-unfit sh _ refl _ refl f r _ refl (u .below)), ((few-says f, inr (roles-say r, unfit-says (firstUnfit sh) u)), refl)))
       (first-says (rowCount sh) unfit))
-      (λ (r : rolesFit sh ≡ false). inr (_, sym (rows-roles sh _ refl _ refl f r), (few-says f, inl (refl, roles-not r))))
+      (λ (r : rolesFit sh ≡ false). inr (_, sym (rows-roles sh _ refl _ refl f r), ((few-says f, inl (refl, roles-not r)), refl)))
       (test (rolesFit sh)))
-      (λ (f : fewRows sh ≡ false). inr (_, sym (rows-many sh _ refl f), (refl, few-not f)))
+      (λ (f : fewRows sh ≡ false). inr (_, sym (rows-many sh _ refl f), ((refl, few-not f), refl)))
       (test (fewRows sh))
 
   loop-say : GoodOrder sh → Says sh (judgeLoop sh)
@@ -104,7 +104,7 @@ module _ (sh : Sheet) where
   loop-say g =
       ⊎-elim
       (λ (x : (loopPlace sh ≡ PAIRS) × NoLoop sh). rw (le-ltb (loopPlace sh) PAIRS (omega (arith, x .0))) (g, x .1))
-      (λ (y : (loopPlace sh < PAIRS) × LoopAt sh (loopPlace sh)). rw (lt-ltb (loopPlace sh) PAIRS (y .0)) (g, y .1))
+      (λ (y : (loopPlace sh < PAIRS) × LoopAt sh (loopPlace sh)). rw (lt-ltb (loopPlace sh) PAIRS (y .0)) ((g, y .1), refl))
       (loop-or sh (good-heads sh g))
 
   -- THE THEOREM
@@ -119,7 +119,7 @@ module _ (sh : Sheet) where
   judge-passes e = subst (Says sh) e judge-says
 
   refusal-says : (n : Name) (k : ℕ) → judgeTables sh ≡ refuse n k → RefusalSays sh n k
-  refusal-says n k e = subst (Says sh) e judge-says
+  refusal-says n k e = subst (Says sh) e judge-says .0
 
   -- TOO MANY: a count of rows is over its limit
   pub too-many-says : (k : ℕ) → judgeTables sh ≡ refuse TooMany k → (k ≡ 0) × (FewRows sh → ⊥)

@@ -40,7 +40,7 @@ RefusalSays sh Count k = ⊥
 RefusalSays sh Request k = ⊥
 RefusalSays sh Last k = ⊥
 
--- a pass: no field and no count is outside its limit, and there is no loop
+-- a pass: no field and no count is outside its limit, and there is no loop; a refusal: lent tables have no lines, and it has no column
 abbrev pub Says : Sheet → Verdict → Type 0
 Says sh Pass = GoodOrder sh × NoLoop sh
-Says sh (Refused r) = RefusalSays sh (r .name) (r .place)
+Says sh (Refused r) = RefusalSays sh (r .name) (r .place) × (r .column ≡ 0)

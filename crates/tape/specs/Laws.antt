@@ -1,4 +1,5 @@
 -- What is proved of a tape.
 pub mod Line
+pub mod Column
 pub mod Fine
 pub mod Exact

@@ -95,7 +95,8 @@ pub fn read_tape(tape: &[u8], roles: u8, before: u32) -> Taken
     while at < tape.len() {
         let e = text::line_end(tape, at);
         if e == tape.len() {
-            return Taken::Refused(answers::refusal_of(Name::Frame, s.line + 1));
+            let r = answers::refusal_of(Name::Frame, s.line + 1);
+            return Taken::Refused(line_readers::in_line(r, &tape[at..e], 0));
         }
         let w = take(&tape[at..e], roles, s);
         match w {

@@ -1,4 +1,4 @@
--- The tests of a line of a tape, in their order (document 01, 'The day program').
+-- The tests of a line of a tape, in their order (document 01, 'The day program'), and the column of its refusal.
 -- Assumes nothing.
 use mathlib.Core.Bool.{Bool, true, not, cond, _&&_, _||_}
 use mathlib.Core.List.{List}
@@ -10,6 +10,7 @@ use Rattle.answers.specs.declared.Name.the-variants.{Request}
 use Rattle.answers.specs.declared.Verdict.{Verdict}
 use Rattle.line_readers.specs.declared.Tests.{Tests}
 use Rattle.line_readers.specs.Order.{inOrder}
+use Rattle.line_readers.specs.Column.{located}
 use Rattle.text.specs.Framed.{framed}
 use Rattle.frames.specs.Frame.{bytesOf, checked}
 use Rattle.kinds.specs.Kinds.{kind}
@@ -47,5 +48,9 @@ tapeTests roles s l =
     let f : List ℕ = bytesOf l in
     record { framed = framed l; checked = checked f; kind = ofTape s f; room = roomForRequest s f; field = inTime s f; last = askFits roles f }
 
+-- FIELD is of the instant, which follows the kind
+abbrev pub INSTANT-BYTE : ℕ
+INSTANT-BYTE = 1
+
 unfoldable pub judgeTape : ℕ → ℕ → Heard → List ℕ → Verdict
-judgeTape place roles s l = inOrder (tapeTests roles s l) Request place
+judgeTape place roles s l = located l INSTANT-BYTE (inOrder (tapeTests roles s l) Request place)

@@ -1,8 +1,10 @@
-// The tests of a line of a tape, in order: FRAME, CHECK, KIND, TOO MANY, FIELD, REQUEST. The first that fails refuses it, at the place handed in.
+// The tests of a line of a tape, in order: FRAME, CHECK, KIND, TOO MANY, FIELD, REQUEST. The first that fails refuses it, at the place handed in and in its column.
 ghost use mathlib.Core.Path.{_≡_};
+ghost use Rattle.answers.specs.declared.Name.the-variants.{Request};
+ghost use Rattle.line_readers.specs.Order.{inOrder};
 ghost use Rattle.frames.specs.Frame.{bytesOf};
 ghost use Rattle.tape_frames.specs.Frame.{instantOf};
-ghost use Rattle.tape_tests.specs.Tests.{tapeSize, ofTape, roomForRequest, inTime, askFits, judgeTape};
+ghost use Rattle.tape_tests.specs.Tests.{tapeSize, ofTape, roomForRequest, inTime, askFits, tapeTests, judgeTape};
 use answers::Name;
 use answers::Verdict;
 use frames::byte_at;
@@ -14,6 +16,9 @@ use tape_frames::instant_of;
 
 // The last instant of a day is at most this.
 const LONGEST_DAY: u32 = 10080;
+
+// The byte of a frame at which its instant begins.
+const INSTANT_BYTE: u16 = 1;
 
 // The most requests in a row of one instant.
 const REQUESTS: u8 = 32;
@@ -82,8 +87,8 @@ fn ask_fits(line: &[u8], roles: u8) -> bool
 }
 
 // The tests of a line of a tape, in order: FRAME, CHECK, KIND, TOO MANY, FIELD, REQUEST.
-pub fn tape_judged(line: &[u8], roles: u8, s: Heard, place: u32) -> Verdict
-    ensures { λ r. ⌜ r ≡ judgeTape place roles s (now (line .entry)) ⌝ }
+fn tape_tested(line: &[u8], roles: u8, s: Heard, place: u32) -> Verdict
+    ensures { λ r. ⌜ r ≡ inOrder (tapeTests roles s (now (line .entry))) Request place ⌝ }
 {
     let t = instant_of(line);
     let framed = text::is_framed(line);
@@ -101,4 +106,15 @@ pub fn tape_judged(line: &[u8], roles: u8, s: Heard, place: u32) -> Verdict
         last: request,
     };
     line_readers::in_order(tests, Name::Request, place)
+}
+
+// The verdict on a line of a tape: the first of its tests that fails refuses it, in its column.
+pub fn tape_judged(line: &[u8], roles: u8, s: Heard, place: u32) -> Verdict
+    ensures { λ r. ⌜ r ≡ judgeTape place roles s (now (line .entry)) ⌝ }
+{
+    let v = tape_tested(line, roles, s, place);
+    match v {
+        Verdict::Pass => Verdict::Pass,
+        Verdict::Refused(r) => Verdict::Refused(line_readers::in_line(r, line, INSTANT_BYTE)),
+    }
 }

@@ -1,4 +1,4 @@
--- A line's characters: FRAME.
+-- A line's characters: FRAME, and its column.
 -- Assumes nothing.
 use mathlib.Core.Bool.{Bool, true, false, cond}
 use mathlib.Core.List.{List, [], _∷_}
@@ -10,7 +10,7 @@ use lib.ListN.{length}
 unfoldable pub isDigit : ℕ → Bool
 isDigit c = cond (ltb c 48) false (cond (leb c 57) true (cond (ltb c 65) false (leb c 70)))
 
--- where the first character stands that is no digit; the line's length where there is none
+-- where the first character stands that is no digit, from 0; the line's length where there is none
 abbrev pub firstBad : List ℕ → ℕ
 firstBad [] = 0
 firstBad (c ∷ l) = cond (isDigit c) (suc (firstBad l)) 0
@@ -22,3 +22,7 @@ allDigits l = eqb (firstBad l) (length l)
 -- a line's characters pass FRAME: it is not empty, each is a digit, and their count is even (the final 0A is looked for where the lines are read)
 unfoldable pub framed : List ℕ → Bool
 framed l = cond (eqb (length l) 0) false (cond (allDigits l) (eqb (length l % 2) 0) false)
+
+-- the column of FRAME, from 1: the first character that is no digit and, where all are digits, what stands after them, the 0A or the end
+abbrev pub frameColumn : List ℕ → ℕ
+frameColumn l = suc (firstBad l)

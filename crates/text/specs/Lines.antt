@@ -27,6 +27,12 @@ abbrev pub lines : List ℕ → Lines
 lines [] = none
 lines (b ∷ text) = cond (eqb b LINE-END) (line [] (lines text)) (onto b (lines text))
 
+-- all of them in order, a last one with no final 0A among them
+abbrev pub allLines : Lines → List (List ℕ)
+allLines none = []
+allLines (endless l) = l ∷ []
+allLines (line l ls) = l ∷ allLines ls
+
 -- how many bytes stand before the first line end
 abbrev pub span : List ℕ → ℕ
 span [] = 0

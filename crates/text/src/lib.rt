@@ -1,9 +1,9 @@
-// The lines of a text: where each ends, at its 0A or with the text; and FRAME, whether a line is one or more pairs of upper-case hexadecimal digits.
+// The lines of a text: where each ends, at its 0A or with the text; and FRAME, whether a line is one or more pairs of upper-case hexadecimal digits, and its column.
 ghost use mathlib.Core.Path.{_≡_};
 ghost use mathlib.Core.Bool.{true};
 ghost use Prim.Native.Nat.{_+_, _≤_};
 ghost use lib.ListN.{length, drop};
-ghost use Rattle.text.specs.Framed.{isDigit, framed, allDigits};
+ghost use Rattle.text.specs.Framed.{isDigit, framed, allDigits, frameColumn};
 ghost use Rattle.text.specs.Lines.{span};
 
 // The byte that ends a line.
@@ -89,4 +89,18 @@ pub fn is_framed(line: &[u8]) -> bool
         return line.len() % 2 == 0;
     }
     false
+}
+
+// The column of FRAME: that of the first character that is no digit, or of what stands after the line.
+pub fn frame_column(line: &[u8]) -> usize
+    ensures { λ r. ⌜ r ≡ frameColumn (now (line .entry)) ⌝ }
+{
+    let mut i: usize = 0;
+    while i < line.len() {
+        if !is_digit(line[i]) {
+            return i + 1;
+        }
+        i += 1;
+    }
+    i + 1
 }

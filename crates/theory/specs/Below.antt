@@ -1,9 +1,9 @@
 -- Some, every, how many and the first of the numbers below n, as tests: a test that passes is the equation `t ≡ true`. Tests as a list. And what 'exactly one' says.
 -- Assumes nothing.
 use mathlib.Core.Path.{_≡_}
-use mathlib.Core.Bool.{Bool, true, false, not, cond, _&&_, _||_}
+use mathlib.Core.Bool.{Bool, true, false, cond, _&&_, _||_}
 use mathlib.Core.List.{List, [], _∷_}
-use Prim.Native.Nat.{ℕ, zero, suc, _+_}
+use Prim.Native.Nat.{ℕ, zero, suc, _+_, _<_}
 use lib.Dec.{ltb}
 use lib.ListN.{length, getD}
 
@@ -45,7 +45,14 @@ testsBelow (suc n) f = f zero ∷ testsBelow n (λ i. f (suc i))
 
 -- the number of the first test that fails, and their count where none does
 abbrev pub firstFailing : List Bool → ℕ
-firstFailing ts = firstBelow (length ts) (λ i. not (getD ts i true))
+firstFailing [] = 0
+firstFailing (t ∷ ts) = cond t (suc (firstFailing ts)) 0
+
+-- test k of a list fails, and all before it pass
+pub record FailsFirst (ts : List Bool) (k : ℕ) : Type 0 where
+  pub below : k < length ts
+  pub fails : getD ts k true ≡ false
+  pub before : (j : ℕ) → j < k → getD ts j true ≡ true
 
 -- exactly one a has P
 abbrev pub ExactlyOne : {A : Type 0} → (A → Type 0) → Type 0

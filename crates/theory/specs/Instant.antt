@@ -2,24 +2,20 @@
 -- Assumes nothing.
 use mathlib.Core.Path.{_≡_}
 use mathlib.Core.Bool.{Bool, true, false, not, _&&_, _||_}
-use mathlib.Core.List.{List, [], _∷_}
 use Prim.Native.Nat.{ℕ, _<_}
-use lib.Dec.{leb, ltb, eqb}
-use Rattle.theory.specs.Numbers.{PRIORITIES, LONGEST-DELAY}
+use lib.Dec.{ltb, eqb}
+use Rattle.theory.specs.Numbers.{PRIORITIES}
 use Rattle.theory.specs.Below.{anyBelow, allBelow, all}
 use Rattle.theory.specs.Events.{Events, Roles, disable, enable, holds, blocked, nonblocked}
-use Rattle.theory.specs.Sheet.{Trigger, Sheet, ofRoles, isPriority, is}
+use Rattle.theory.specs.Sheet.{Trigger, Sheet, eventTests, is}
 
 -- The requests of one instant: `asks d e p ≡ true` says that p:e is asked for with delay d.
 abbrev pub Requests : Type 0
 Requests = ℕ → Events
 
--- a request's event is below twice the role count, its priority at most 15, its delay at most 60: one test a field, in frame order (the instant of its frame is tape_tests' own test, FIELD)
-abbrev pub requestTests : ℕ → ℕ → ℕ → ℕ → List Bool
-requestTests roleCount d e p = ofRoles roleCount e ∷ isPriority p ∷ leb d LONGEST-DELAY ∷ []
-
+-- a request's event is below twice the role count, its priority at most 15, its delay at most 60 (the instant of its frame is tape_tests' own test, FIELD)
 unfoldable pub requestFits : ℕ → ℕ → ℕ → ℕ → Bool
-requestFits roleCount d e p = all (requestTests roleCount d e p)
+requestFits roleCount d e p = all (eventTests roleCount e p d)
 
 -- the conditions of a trigger all hold in ST
 unfoldable pub allows : Roles → Trigger → Bool

@@ -3,6 +3,7 @@ pub mod Tests
 pub mod Below
 pub mod First
 pub mod All
+pub mod FirstBad
 pub mod Instant
 pub mod Limits
 pub mod Unique

@@ -65,17 +65,18 @@ periodicTests roleCount w =
 unfoldable pub periodicFits : ℕ → Periodic → Bool
 periodicFits roleCount w = all (periodicTests roleCount w)
 
--- a trigger's tests likewise: the counts, each event, each condition, and what stands last
+-- the tests of an event with its priority and its delay, as a trigger's head and a request have them, one a field, in frame order
+abbrev pub eventTests : ℕ → ℕ → ℕ → ℕ → List Bool
+eventTests roleCount e p d = ofRoles roleCount e ∷ isPriority p ∷ leb d LONGEST-DELAY ∷ []
+
+-- a trigger's tests likewise: the counts, each event, each condition, and the head with its priority and delay
 abbrev pub triggerTests : ℕ → Trigger → List Bool
 triggerTests roleCount g =
     (leb 1 (g .eventCount) && leb (g .eventCount) BODY-EVENTS)
     ∷ leb (g .conditionCount) BODY-CONDITIONS
     ∷ (testsBelow (g .eventCount) (λ j. ofRoles roleCount (g .event j))
     ++ (testsBelow (g .conditionCount) (λ j. ofRoles roleCount (g .condition j))
-    ++ (ofRoles roleCount (g .head)
-    ∷ isPriority (g .priority)
-    ∷ leb (g .delay) LONGEST-DELAY
-    ∷ [])))
+    ++ eventTests roleCount (g .head) (g .priority) (g .delay)))
 
 unfoldable pub triggerFits : ℕ → Trigger → Bool
 triggerFits roleCount g = all (triggerTests roleCount g)

@@ -112,7 +112,8 @@ fn put_result(
 ) -> usize {
     let counts = counts_of(reading);
     let answer = answers::answer_of(reader::verdict_of(reading));
-    let a = cases::put_answer(out, answer);
+    let n = cases::put_answer(out, answer);
+    let a = put(out, n, answer.column, 8);
     let b = put_counts(out, a, counts);
     let c = put_rows(out, b, periodics, 16, counts.periodics);
     let d = put_rows(out, c, triggers, 13, counts.triggers);

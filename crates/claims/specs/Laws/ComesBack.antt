@@ -17,7 +17,7 @@ use Rattle.theory.specs.Laws.Loop.{loop-or}
 use Rattle.theory.specs.Laws.OneSolution.{good-heads}
 use Rattle.answers.specs.declared.Name.{Name}
 use Rattle.answers.specs.declared.Name.the-variants.{Length, Loop}
-use Rattle.answers.specs.Answers.{answered, refusal}
+use Rattle.answers.specs.Answers.{answered}
 use Rattle.text.specs.Lines.{lines}
 use Rattle.line_readers.specs.Walks.{goes, refused}
 use Rattle.line_readers.specs.Laws.Walks.{no-goes}
@@ -30,7 +30,7 @@ use Rattle.reader.specs.Laws.Exact.{outcome-one}
 use Rattle.reader.specs.Reading.{start, byLines, sheetLengthsFit, reading}
 use Rattle.reader.specs.Laws.Lengths.{lengths-say}
 use Rattle.line_by_line.specs.Lines.{linesIn, restIn}
-use Rattle.line_by_line.specs.ComesBack.{RefusedAt, ReadsWhole, periodicTable, triggerTable, countsOf, sheetSaid, LengthsFit, framesIn, ComesBack, by-length, at-line, by-loop, accepted}
+use Rattle.line_by_line.specs.ComesBack.{RefusedAt, refusalAt, ReadsWhole, periodicTable, triggerTable, countsOf, sheetSaid, LengthsFit, framesIn, ComesBack, by-length, at-line, by-loop, accepted}
 use Rattle.line_by_line.specs.Laws.Said.{said}
 use Rattle.line_by_line.specs.Laws.Lines.{Way, stops, goes-on, from-first}
 use Rattle.line_by_line.specs.Laws.One.{refused-one, whole-not}
@@ -62,7 +62,7 @@ module _ (sheet p t : List ℕ) where
 
   -- a refusal, with the tables as they came
   abbrev bad : Name → ℕ → ReadOutcome
-  bad name k = readOutcome (Refused (refusal name k)) p t
+  bad name k = readOutcome (Refused (refusalAt ls rest name k)) p t
 
   -- ---- each answer, from what the words say
 
@@ -72,7 +72,7 @@ module _ (sheet p t : List ℕ) where
   length-back n = rw (is-false (sheetLengthsFit (length sheet) (length p) (length t)) (λ h. n (fits h))) refl
 
   -- a line that the reader refuses, and one that is refused by the words
-  refused-back : Fit → (name : Name) (k : ℕ) → reads (goes start) (lines sheet) ≡ refused (refusal name k) → reading sheet p t ≡ bad name k
+  refused-back : Fit → (name : Name) (k : ℕ) → reads (goes start) (lines sheet) ≡ refused (refusalAt ls rest name k) → reading sheet p t ≡ bad name k
   unfolding reading byLines
   refused-back l name k e = rw (so-fits l, e) refl
 
@@ -159,7 +159,7 @@ module _ (sheet p t : List ℕ) where
   reader-whole = ((λ x. to (x .0) (x .1) (from-first sheet)), (λ x. (said fs, whole-back (x .0) (x .1))))
     where
       to : (s : Progress) → ReadsInOrder sheet p t s → Way ls rest (reads (goes start) (lines sheet)) → Fit × ReadsWhole ls rest
-      to s o (stops a m y e) = no-goes (refusal a m) s (sym e ∙ o .to-its-end)
+      to s o (stops a m y e) = no-goes (refusalAt ls rest a m) s (sym e ∙ o .to-its-end)
       to s o (goes-on w e) = (fits (o .lengths), w)
 
   -- what is handed out is what the frames say

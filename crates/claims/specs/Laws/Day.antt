@@ -77,7 +77,7 @@ module _ (input out : List ℕ) (r : Printed) (out′ : List ℕ) (size : length
   answers o e = ap answered (back-answers (opening input) out r out′ (day .fits size) ∙ ap answerTo e)
 
   -- THE THEOREM: number 0, place 0, exactly where the input opens
-  pub day-ok : (answered (r .verdict) ≡ record { number = 0; place = 0 }) ↔ ((sh : Sheet) × (RQ : Stream) × (last : ℕ) × (opening input ≡ opens sh RQ last))
+  pub day-ok : (answered (r .verdict) ≡ record { number = 0; place = 0; column = 0 }) ↔ ((sh : Sheet) × (RQ : Stream) × (last : ℕ) × (opening input ≡ opens sh RQ last))
   day-ok = (
     (λ h.
         ⊎-elim
@@ -87,21 +87,21 @@ module _ (input out : List ℕ) (r : Printed) (out′ : List ℕ) (size : length
     (λ x. answers (opens (x .0) (x .1) (x .2)) (x .3)),
   )
 
-  -- and any other number and place exactly where it is refused with them
-  pub day-refuses : (n k : ℕ) → 1 ≤ n → (answered (r .verdict) ≡ record { number = n; place = k }) ↔ ((x : Refusal) × (opening input ≡ refused x) × (numberOf (x .name) ≡ n) × (x .place ≡ k))
-  day-refuses n k l = (
+  -- and any other number, place and column exactly where it is refused with them
+  pub day-refuses : (n k m : ℕ) → 1 ≤ n → (answered (r .verdict) ≡ record { number = n; place = k; column = m }) ↔ ((x : Refusal) × (opening input ≡ refused x) × (numberOf (x .name) ≡ n) × (x .place ≡ k) × (x .column ≡ m))
+  day-refuses n k m l = (
     (λ h.
         ⊎-elim
         (λ (x : (sh : Sheet) × (RQ : Stream) × (last : ℕ) × (opening input ≡ opens sh RQ last)).
         let e : 0 ≡ n = ap (λ (a : Answer). a .number) (sym (answers (opens (x .0) (x .1) (x .2)) (x .3)) ∙ h) in
         absurd (omega (arith, l, e)))
         (λ (y : (x : Refusal) × (opening input ≡ refused x)).
-        let e : answered (Refused (y .0)) ≡ record { number = n; place = k } = sym (answers (refused (y .0)) (y .1)) ∙ h in
-        (y .0, y .1, ap (λ (a : Answer). a .number) e, ap (λ (a : Answer). a .place) e))
+        let e : answered (Refused (y .0)) ≡ record { number = n; place = k; column = m } = sym (answers (refused (y .0)) (y .1)) ∙ h in
+        (y .0, y .1, ap (λ (a : Answer). a .number) e, ap (λ (a : Answer). a .place) e, ap (λ (a : Answer). a .column) e))
         (opening-cases (opening input))),
-    (λ x. answers (refused (x .0)) (x .1) ∙ (λ i. record { number = x .2 i; place = x .3 i })),
+    (λ x. answers (refused (x .0)) (x .1) ∙ (λ i. record { number = x .2 i; place = x .3 i; column = x .4 i })),
   )
 
 -- a buffer of another length is number 1, place 0
-pub day-length : (input out : List ℕ) (r : Printed) (out′ : List ℕ) → (length out ≡ OUTPUT-BYTES → ⊥) → DayOutcome input out r out′ → answered (r .verdict) ≡ record { number = 1; place = 0 }
+pub day-length : (input out : List ℕ) (r : Printed) (out′ : List ℕ) → (length out ≡ OUTPUT-BYTES → ⊥) → DayOutcome input out r out′ → answered (r .verdict) ≡ record { number = 1; place = 0; column = 0 }
 day-length input out r out′ n d = ap (λ (p : Printed). answered (p .verdict)) (d .unfit n .0)

@@ -10,6 +10,7 @@ use Rattle.theory.specs.Sheet.{triggerFits}
 use Rattle.theory.specs.Graph.{counts, node, drawn, here, LoopAt}
 use Rattle.answers.specs.declared.Name.the-variants.{Loop}
 use Rattle.line_readers.specs.Order.{inOrder}
+use Rattle.line_readers.specs.Column.{located}
 use Rattle.tables.specs.Layout.{triggerFrom, sheetOf}
 use Rattle.text.specs.Lines.{lines}
 use Rattle.text.specs.Framed.{isDigit, framed}
@@ -48,12 +49,12 @@ found = end (reads (goes start) (lines looped))
 
 in-order : ReadsInOrder looped noPeriodics noTriggers found
 unfolding anyBelow allBelow triggerFits triggerFrom isDigit value framed checked sizeOf mayStand placed eventPlace conditionPlace lastPlace triggerRow headerFits frameFits roomFor countsAgree
-    inOrder lineTests judgeLine seenAfter tableAfter after byVerdict lineStep atEnd walks sheetLengthsFit
+    inOrder located lineTests judgeLine seenAfter tableAfter after byVerdict lineStep atEnd walks sheetLengthsFit
 in-order = record { lengths = refl; to-its-end = to-end (reads (goes start) (lines looped)) refl }
 
 has-loop : LoopAt (sheetRead found) 0
 unfolding anyBelow allBelow triggerFits triggerFrom sheetOf isDigit value framed checked sizeOf mayStand placed eventPlace conditionPlace lastPlace triggerRow headerFits frameFits roomFor countsAgree
-    inOrder lineTests judgeLine seenAfter tableAfter after byVerdict lineStep atEnd walks conf counts node drawn
+    inOrder located lineTests judgeLine seenAfter tableAfter after byVerdict lineStep atEnd walks conf counts node drawn
 has-loop =
     record {
       from = 0;

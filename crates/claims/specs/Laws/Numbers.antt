@@ -58,7 +58,7 @@ number-once a b e = sym (name-again a) ∙ (ap (λ (n : ℕ). nameAt (n - 1)) e 
 pub not-ok : {C : Type 0} (r : Refusal) → answered (Refused r) ≡ answered Pass → C
 not-ok r e = absurd (omega (arith, no-other (r .name) .0, ap (λ (a : Answer). a .number) e))
 
--- no two verdicts have one number and one place
+-- no two verdicts have one number, one place and one column
 pub answered-once : (v w : Verdict) → answered v ≡ answered w → v ≡ w
 answered-once Pass Pass e = refl
 answered-once Pass (Refused r) e = not-ok r (sym e)
@@ -66,7 +66,8 @@ answered-once (Refused r) Pass e = not-ok r e
 answered-once (Refused r) (Refused s) e =
     let n : r .name ≡ s .name = number-once (r .name) (s .name) (ap (λ (a : Answer). a .number) e) in
     let p : r .place ≡ s .place = ap (λ (a : Answer). a .place) e in
-    λ i. Refused (record { name = n i; place = p i })
+    let c : r .column ≡ s .column = ap (λ (a : Answer). a .column) e in
+    λ i. Refused (record { name = n i; place = p i; column = c i })
 
 -- every number is of one
 pub number-each : (n : ℕ) → 1 ≤ n → n ≤ 10 → (name : Name) × (numberOf name ≡ n)

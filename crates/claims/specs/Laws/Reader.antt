@@ -24,13 +24,14 @@ use Rattle.answers.specs.declared.Verdict.the-variants.{Pass, Refused}
 use Rattle.line_readers.specs.declared.Tests.{Tests}
 use Rattle.answers.specs.Answers.{numberOf, answered, refuse, refusal}
 use Rattle.line_readers.specs.Order.{inOrder}
+use Rattle.line_readers.specs.Column.{located}
 use Rattle.text.specs.Lines.{Lines, none, endless, line, lines}
 use Rattle.frames.specs.Frame.{bytesOf}
 use Rattle.line_readers.specs.Walks.{Going, goes, refused, byVerdict, walks}
 use Rattle.kinds.specs.declared.Stage.{Stage}
 use Rattle.kinds.specs.declared.Stage.the-variants.{Start, Rows, Ended}
 use Rattle.sheet_tests.specs.declared.Seen.{Seen}
-use Rattle.sheet_tests.specs.Judge.{lineTests, judgeLine}
+use Rattle.sheet_tests.specs.Judge.{lineTests, lineField, judgeLine}
 use Rattle.sheet_acts.specs.Acts.{Progress, after}
 use Rattle.reader.specs.Line.{lineStep}
 use Rattle.reader.specs.Lines.{atEnd, reads}
@@ -54,11 +55,18 @@ test-not : (b : Bool) (v : Verdict) (name : Name) (place : ℕ) → NotLoop v �
 test-not true v name place h n = h
 test-not false v name place h n = n
 
+-- nor is it with its column
+located-not : (l : List ℕ) (field : ℕ) (v : Verdict) → NotLoop v → NotLoop (located l field v)
+unfolding located
+located-not l field Pass h = h
+located-not l field (Refused r) h = h
+
 line-not : (place : ℕ) (s : Seen) (l : List ℕ) → NotLoop (judgeLine place s l)
 unfolding judgeLine inOrder
 line-not place s l =
     let t : Tests = lineTests s l in
-    test-not (t .framed) _ Frame place
+    located-not l (lineField s l) (inOrder t Count place)
+    (test-not (t .framed) _ Frame place
     (test-not (t .checked) _ Check place
     (test-not (t .kind) _ Kind place
     (test-not (t .room) _ TooMany place
@@ -68,7 +76,7 @@ line-not place s l =
     (λ e. omega (arith, e)))
     (λ e. omega (arith, e)))
     (λ e. omega (arith, e)))
-    (λ e. omega (arith, e))
+    (λ e. omega (arith, e)))
 
 -- what goes on, or its refusal, as a verdict
 abbrev verdictIn : Going Progress → Verdict
@@ -159,7 +167,7 @@ module _ (sheet p t : List ℕ) where
         (loop-or (sheetRead s) (good-heads (sheetRead s) (reader-order sheet p t s o)))
 
   -- THE THEOREM: number 8 at k exactly where the sheet reads in good order and has its loop at k
-  pub reader-loops : (k : ℕ) → (answerIn (reading sheet p t) ≡ record { number = 8; place = k }) ↔ ((s : Progress) × ReadsInOrder sheet p t s × LoopAt (sheetRead s) k)
+  pub reader-loops : (k : ℕ) → (answerIn (reading sheet p t) ≡ record { number = 8; place = k; column = 0 }) ↔ ((s : Progress) × ReadsInOrder sheet p t s × LoopAt (sheetRead s) k)
   reader-loops k = (
     (λ h.
         ⊎-elim
@@ -178,7 +186,7 @@ module _ (sheet p t : List ℕ) where
   )
 
   -- and number 0, place 0, exactly where it reads in good order and has none
-  pub reader-accepts : (answerIn (reading sheet p t) ≡ record { number = 0; place = 0 }) ↔ ((s : Progress) × ReadsInOrder sheet p t s × NoLoop (sheetRead s))
+  pub reader-accepts : (answerIn (reading sheet p t) ≡ record { number = 0; place = 0; column = 0 }) ↔ ((s : Progress) × ReadsInOrder sheet p t s × NoLoop (sheetRead s))
   reader-accepts = (
     (λ h.
         ⊎-elim

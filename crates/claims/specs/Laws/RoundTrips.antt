@@ -14,7 +14,6 @@ use Rattle.theory.specs.Below.{ExactlyOne}
 use Rattle.theory.specs.Sheet.{Sheet, GoodOrder}
 use Rattle.theory.specs.Graph.{NoLoop}
 use Rattle.theory.specs.Used.{SameUsed}
-use Rattle.answers.specs.declared.Name.{Name}
 use Rattle.answers.specs.declared.Name.the-variants.{Length}
 use Rattle.answers.specs.declared.Refusal.{Refusal}
 use Rattle.answers.specs.declared.Verdict.the-variants.{Pass, Refused}
@@ -116,13 +115,13 @@ module _ (sheet p t : List ℕ) (n : Counts) (p′ t′ : List ℕ) (e : reading
   read-whole : ReadsWhole (linesIn sheet) (restIn sheet)
   read-whole = from (reader-says sheet p t (readOutcome (Good n) p′ t′) .0 e)
     where
-      not-bad : {C : Type 0} (name : Name) (k : ℕ) → readOutcome (Good n) p′ t′ ≡ readOutcome (Refused (refusal name k)) p t → C
-      not-bad name k h = absurd (let q : Good n ≡ Refused (refusal name k) = ap (λ (o : ReadOutcome). o .answer) h in let z : _≡_ {A = ℕ} 0 1 = cc in omega arith)
+      not-bad : {C : Type 0} (x : Refusal) → readOutcome (Good n) p′ t′ ≡ readOutcome (Refused x) p t → C
+      not-bad x h = absurd (let q : Good n ≡ Refused x = ap (λ (o : ReadOutcome). o .answer) h in let z : _≡_ {A = ℕ} 0 1 = cc in omega arith)
 
       from : ComesBack sheet p t (readOutcome (Good n) p′ t′) → ReadsWhole (linesIn sheet) (restIn sheet)
-      from (by-length f h) = not-bad _ _ h
-      from (at-line name k l x h) = not-bad name k h
-      from (by-loop k l w x h) = not-bad _ k h
+      from (by-length f h) = not-bad _ h
+      from (at-line name k l x h) = not-bad _ h
+      from (by-loop k l w x h) = not-bad _ h
       from (accepted l w x h) = w
 
   -- the lines in table order are those that are written of it
@@ -154,7 +153,7 @@ module _ (sheet p t : List ℕ) (n : Counts) (p′ t′ : List ℕ) (e : reading
         let sizes = reading-sizes sheet p t n p′ t′ e in
         o .verdict ∙ passes-so (rules n p′ t′) (length out) (record { periodic-bytes = sizes .0; trigger-bytes = sizes .1; buffer = whole; tables = reading-passes sheet p t n p′ t′ e })
 
-    pub writes-what-was-read : (answered (r .verdict) ≡ record { number = 0; place = 0 }) × (take (r .length) out′ ≡ joined (inTableOrder (linesIn sheet)))
+    pub writes-what-was-read : (answered (r .verdict) ≡ record { number = 0; place = 0; column = 0 }) × (take (r .length) out′ ≡ joined (inTableOrder (linesIn sheet)))
     writes-what-was-read = (ap answered passed, front-order out r out′ (o .passed passed))
 
 -- ---- the same, without a table
@@ -196,7 +195,7 @@ module _ (sheet p t : List ℕ) where
       }
 
   -- an accepted sheet is sent back, in one way
-  pub sent-one : answered (verdictOf (reading sheet p t .answer)) ≡ record { number = 0; place = 0 } → ExactlyOne (SentBack sheet)
+  pub sent-one : answered (verdictOf (reading sheet p t .answer)) ≡ record { number = 0; place = 0; column = 0 } → ExactlyOne (SentBack sheet)
   sent-one ok = (_, some-back (reading sheet p t .answer) (reading sheet p t .tables) refl ok, sent-order sheet)
 
 -- ---- a sheet read and written again
@@ -253,7 +252,7 @@ module _ (input out : List ℕ) where
         (λ f. kept-if (sheetReading input .answer) (sheetReading input .tables) (o .fits (f .0) (f .1)) x e)
         (λ n. let k = o .unfit n in (ap (λ (z : Resent). z .length) (k .0), k .1))
 
-    pub resend-length : ¬ Fit → answered (r .verdict) ≡ record { number = 1; place = 0 }
+    pub resend-length : ¬ Fit → answered (r .verdict) ≡ record { number = 1; place = 0; column = 0 }
     resend-length n = ap (λ (z : Resent). answered (z .verdict)) (o .unfit n .0)
 
     same-verdict : (a : Reading) (tables : Tables) → ByAnswer input a tables out r out′ → r .verdict ≡ verdictOf a

@@ -90,7 +90,7 @@ module _ (R : Rules) (q : Asked) (l : Lent) where
         let b = past (leb (l .instant) LAST-INSTANT) _ Last 0 k (λ e. omega (arith, e)) (a .1) in
         let c = past (leb (q .count) REQUESTS) _ TooMany 0 k (λ e. omega (arith, e)) (b .1) in
         let d : judgeTables (sheetIn R) ≡ refuse Loop k = then-past (judgeTables (sheetIn R)) (judgeRequests (R .counts .roles) q) k requests-not (c .1) in
-        let g : GoodOrder (sheetIn R) × LoopAt (sheetIn R) k = subst (Says (sheetIn R)) d (judge-says (sheetIn R)) in
+        let g : GoodOrder (sheetIn R) × LoopAt (sheetIn R) k = subst (Says (sheetIn R)) d (judge-says (sheetIn R)) .0 in
         (ordered (lengths-say R l (a .0)) (b .0) (c .0) (g .0), g .1)),
     (λ x.
         let o : Ordered R q l = x .0 in
@@ -108,13 +108,13 @@ module _ (R : Rules) (q : Asked) (l : Lent) where
 -- ---- the same in document 01's numbers, of the step's own outcome
 
 -- number 8 at k
-pub step-loops : (R : Rules) (q : Asked) (l : Lent) (v : Verdict) (a : Lent) → Outcome R q l v a → (k : ℕ) → (answered v ≡ record { number = 8; place = k }) ↔ (Ordered R q l × LoopAt (sheetIn R) k)
+pub step-loops : (R : Rules) (q : Asked) (l : Lent) (v : Verdict) (a : Lent) → Outcome R q l v a → (k : ℕ) → (answered v ≡ record { number = 8; place = k; column = 0 }) ↔ (Ordered R q l × LoopAt (sheetIn R) k)
 step-loops R q l v a o k =
     let x = step-loops-says R q l k in
     ((λ e. x .0 (sym (o .judged) ∙ answered-once v (refuse Loop k) e)), (λ y. ap answered (o .judged ∙ x .1 y)))
 
 -- number 0, place 0
-pub step-ok : (R : Rules) (q : Asked) (l : Lent) (v : Verdict) (a : Lent) → Outcome R q l v a → (answered v ≡ record { number = 0; place = 0 }) ↔ (Ordered R q l × NoLoop (sheetIn R) × AllFit (R .counts .roles) q)
+pub step-ok : (R : Rules) (q : Asked) (l : Lent) (v : Verdict) (a : Lent) → Outcome R q l v a → (answered v ≡ record { number = 0; place = 0; column = 0 }) ↔ (Ordered R q l × NoLoop (sheetIn R) × AllFit (R .counts .roles) q)
 step-ok R q l v a o =
     let x = step-passes-says R q l in
     ((λ e. x .0 (sym (o .judged) ∙ answered-once v Pass e)), (λ y. ap answered (o .judged ∙ x .1 y)))

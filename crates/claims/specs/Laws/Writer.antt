@@ -131,7 +131,7 @@ module _ (sh : Sheet) where
 
   says-judged : (v : Verdict) → Says sh v → v ≡ judgeTables sh
   says-judged Pass s = sym (judge-refuses-not sh (s .0) (s .1))
-  says-judged (Refused x) s = refusal-judged (x .name) (x .place) s
+  says-judged (Refused x) s = (λ i. Refused (record { name = x .name; place = x .place; column = s .1 i })) ∙ refusal-judged (x .name) (x .place) (s .0)
 
   pub says-one : (v : Verdict) → Says sh v ↔ (v ≡ judgeTables sh)
   says-one v = (says-judged v, (λ e. subst (Says sh) (sym e) (judge-says sh)))
@@ -139,7 +139,7 @@ module _ (sh : Sheet) where
 -- ---- the answers
 
 module _ (R : Rules) (out : List ℕ) (r : Sent) (out′ : List ℕ) (o : WriteOutcome R out r out′) where
-  pub writer-length : ¬ WriteLengths R out → answered (r .verdict) ≡ record { number = 1; place = 0 }
+  pub writer-length : ¬ WriteLengths R out → answered (r .verdict) ≡ record { number = 1; place = 0; column = 0 }
   writer-length n = ap answered (o .verdict ∙ judged-length R out n)
 
   pub writer-says : WriteLengths R out → (v : Verdict) → Says (sheetIn R) v ↔ (v ≡ r .verdict)
@@ -147,7 +147,7 @@ module _ (R : Rules) (out : List ℕ) (r : Sent) (out′ : List ℕ) (o : WriteO
       let e : r .verdict ≡ judgeTables (sheetIn R) = o .verdict ∙ judged-tables R out w in
       ((λ s. says-one (sheetIn R) v .0 s ∙ sym e), (λ f. says-one (sheetIn R) v .1 (f ∙ e)))
 
-  pub writer-ok : (answered (r .verdict) ≡ record { number = 0; place = 0 }) ↔ (WriteLengths R out × GoodOrder (sheetIn R) × NoLoop (sheetIn R))
+  pub writer-ok : (answered (r .verdict) ≡ record { number = 0; place = 0; column = 0 }) ↔ (WriteLengths R out × GoodOrder (sheetIn R) × NoLoop (sheetIn R))
   writer-ok = (
     (λ h.
         let e : judgeWriting R (length out) ≡ Pass = sym (o .verdict) ∙ answered-once (r .verdict) Pass h in
@@ -157,7 +157,7 @@ module _ (R : Rules) (out : List ℕ) (r : Sent) (out′ : List ℕ) (o : WriteO
     (λ x. ap answered (o .verdict ∙ judged-tables R out (x .0) ∙ judge-refuses-not (sheetIn R) (x .1) (x .2))),
   )
 
-  pub writer-loops : (k : ℕ) → (answered (r .verdict) ≡ record { number = 8; place = k }) ↔ (WriteLengths R out × GoodOrder (sheetIn R) × LoopAt (sheetIn R) k)
+  pub writer-loops : (k : ℕ) → (answered (r .verdict) ≡ record { number = 8; place = k; column = 0 }) ↔ (WriteLengths R out × GoodOrder (sheetIn R) × LoopAt (sheetIn R) k)
   writer-loops k = (
     (λ h.
         let e : r .verdict ≡ refuse Loop k = answered-once (r .verdict) (refuse Loop k) h in
@@ -165,9 +165,9 @@ module _ (R : Rules) (out : List ℕ) (r : Sent) (out′ : List ℕ) (o : WriteO
         (λ (f : fit R out ≡ true).
         let w : WriteLengths R out = fits-say R out f in
         let s : Says (sheetIn R) (refuse Loop k) = writer-says w (refuse Loop k) .1 (sym e) in
-        (w, s .0, s .1))
+        (w, s .0 .0, s .0 .1))
         (λ (f : fit R out ≡ false).
-        let n : answered (r .verdict) ≡ record { number = 1; place = 0 } = writer-length (λ w. not-both (so-fits R out w) f) in
+        let n : answered (r .verdict) ≡ record { number = 1; place = 0; column = 0 } = writer-length (λ w. not-both (so-fits R out w) f) in
         let z : _≡_ {A = ℕ} 1 8 = ap (λ (a : Answer). a .number) (sym n ∙ h) in
         absurd (omega arith))
         (test (fit R out))),

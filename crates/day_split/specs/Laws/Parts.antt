@@ -10,33 +10,12 @@ use native.Mathlib.Omega.{arith}
 use lib.Dec.{eqb}
 use lib.ListN.{length, take, drop, length-append, take-append-drop}
 use lib.Seq.{take-append-seam, drop-append-seam}
-use borrow.Author.Tests.{eqb-true}
 use Rattle.theory.specs.Laws.Tests.{test}
 use Rattle.text.specs.Lines.{LINE-END, Lines, none, endless, line, onto, lines}
+use Rattle.text.specs.Laws.Lines.{textOf, text-lines}
 use Rattle.day_split.specs.Split.{beginsEnd, upToEnd, afterEnd, byteCount, sheetBytes, sheetPart, tapePart}
 
 -- ---- a text, and its lines
-
--- the text of lines: each with its 0A behind it
-textOf : Lines → List ℕ
-textOf none = []
-textOf (endless l) = l
-textOf (line l ls) = l ++ (LINE-END ∷ textOf ls)
-
-text-onto : (b : ℕ) (ls : Lines) → textOf (onto b ls) ≡ b ∷ textOf ls
-unfolding textOf
-text-onto b none = refl
-text-onto b (endless l) = refl
-text-onto b (line l ls) = refl
-
-text-lines : (text : List ℕ) → textOf (lines text) ≡ text
-unfolding textOf
-text-lines [] = refl
-text-lines (b ∷ text) =
-    ⊎-elim
-    (λ (t : eqb b LINE-END ≡ true). rw t (rw (eqb-true b LINE-END t) (ap (λ (x : List ℕ). LINE-END ∷ x) (text-lines text))))
-    (λ (t : eqb b LINE-END ≡ false). rw t (text-onto b (lines text) ∙ ap (λ (x : List ℕ). b ∷ x) (text-lines text)))
-    (test (eqb b LINE-END))
 
 text-size : (ls : Lines) → length (textOf ls) ≡ byteCount ls
 unfolding textOf byteCount

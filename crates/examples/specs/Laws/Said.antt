@@ -10,6 +10,7 @@ use Rattle.theory.specs.Graph.{counts, node, drawn, edge}
 use Rattle.theory.specs.Box.{givens, rowAfter}
 use Rattle.theory.specs.Laws.Exists.{fire, round}
 use Rattle.line_readers.specs.Order.{inOrder}
+use Rattle.line_readers.specs.Column.{located}
 use Rattle.tables.specs.Layout.{periodicAt, triggerFrom, sheetOf}
 use Rattle.text.specs.Framed.{isDigit, framed}
 use Rattle.frames.specs.Frame.{value, checked}
@@ -39,7 +40,7 @@ use Rattle.examples.specs.Laws.Sound.{all-sound}
 all-pass : passing table ≡ true
 unfolding anyBelow allBelow countBelow conf holds blocks blocked nonblocked endFits periodicFits triggerFits untilEnd rowDue due requestFits allows met ready waitsFor rolesAfter
     counts node drawn edge givens rowAfter fire round periodicAt triggerFrom sheetOf isDigit value framed checked digitOf checkOf
-    sizeOf mayStand periodicRow placed eventPlace conditionPlace lastPlace triggerRow headerFits frameFits roomFor countsAgree inOrder lineTests judgeLine
+    sizeOf mayStand periodicRow placed eventPlace conditionPlace lastPlace triggerRow headerFits frameFits roomFor countsAgree inOrder located lineTests judgeLine
     seenAfter tableAfter after byVerdict lineStep atEnd walks sheetLengthsFit
     beginsEnd upToEnd byteCount lineCount tapeSize ofTape roomForRequest inTime askFits tapeTests judgeTape manyWith heardAfter tapeStep tapeEnds weightBelow lineAt minuteLine minuteLines
     first streamOf rolesIn rowsIn goodOrder leveled loopsAt selfCaused readFound asksOf openFound givensHeld rolesFound waitsFound minuteFound minutesFound linesFound

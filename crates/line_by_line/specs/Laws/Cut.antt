@@ -109,10 +109,10 @@ lines-are text ls rest = (
 
 -- ---- a last line without 0A is not empty
 
--- what is left over is nothing where all lines have their 0A, and else something
+-- what is left over is nothing where all lines have their 0A, and else the last line
 abbrev pub Left : List ℕ → Lines → Type 0
 Left rest none = rest ≡ []
-Left rest (endless l) = ¬ (rest ≡ [])
+Left rest (endless l) = (rest ≡ l) × ¬ (rest ≡ [])
 Left rest (line l ls) = Left rest ls
 
 -- a byte and more is not nothing
@@ -121,8 +121,8 @@ not-empty b l e = let w : suc (length l) ≡ 0 = ap length e in omega arith
 
 -- it stays so with a byte more in front
 left-onto : (b : ℕ) (x : Lines) → Left (leftOver x) x → Left (leftOver (onto b x)) (onto b x)
-left-onto b none h = not-empty b []
-left-onto b (endless l) h = not-empty b l
+left-onto b none h = (refl, not-empty b [])
+left-onto b (endless l) h = (refl, not-empty b l)
 left-onto b (line l ls) h = h
 
 -- it is so of a text's lines

@@ -9,18 +9,20 @@ use Prim.Native.Nat.{ℕ, suc, _+_, _-_, _≤_, _<_}
 use native.Mathlib.Decide.{decLe}
 use native.Mathlib.Omega.{arith}
 use lib.Dec.{eqb}
-use lib.ListN.{length, getD, take, drop, length-drop, length-map}
-use lib.Seq.{take-all, take-suc, drop-cons, length-take-le}
+use lib.ListN.{length, getD, take, drop, length-drop, length-map, List·getD-append}
+use lib.Seq.{take-all, take-suc, drop-cons, length-take-le, getD-append-seam}
 use borrow.Author.Tests.{eqb-true, eqb-false}
 use Rattle.theory.specs.Laws.Tests.{test}
 use Rattle.answers.specs.declared.Name.{Name}
 use Rattle.answers.specs.declared.Name.the-variants.{Frame, Kind}
 use Rattle.answers.specs.declared.Verdict.{Verdict}
-use Rattle.answers.specs.Answers.{refusal}
+use Rattle.answers.specs.Answers.{refusal, inColumn}
 use Rattle.text.specs.Lines.{Lines, none, endless, line, lines}
+use Rattle.text.specs.Framed.{frameColumn}
 use Rattle.frames.specs.Frame.{bytesOf}
 use Rattle.kinds.specs.declared.Stage.the-variants.{Rows, Ended}
 use Rattle.kinds.specs.Kinds.{END}
+use Rattle.line_readers.specs.Column.{columnOf, inLine, located}
 use Rattle.line_readers.specs.Walks.{Going, goes, refused, byVerdict, walks}
 use Rattle.line_readers.specs.Laws.Walks.{walks-refused}
 use Rattle.sheet_acts.specs.Acts.{Progress, after}
@@ -28,8 +30,8 @@ use Rattle.reader.specs.Line.{lineStep}
 use Rattle.reader.specs.Lines.{atEnd, sheetReader, reads}
 use Rattle.reader.specs.Reading.{start}
 use Rattle.line_by_line.specs.Lines.{endedLines, linesIn, restIn}
-use Rattle.line_by_line.specs.Tests.{howMany, order, allPass, FirstFails}
-use Rattle.line_by_line.specs.ComesBack.{framesOf, Passes, Fails, Fault, fails, no-final, no-end, RefusedAt, ReadsWhole}
+use Rattle.line_by_line.specs.Tests.{howMany, order, allPass, FirstFails, badField}
+use Rattle.line_by_line.specs.ComesBack.{framesOf, Passes, Fails, Fault, fails, no-final, no-end, RefusedAt, faultyLine, refusalAt, ReadsWhole}
 use Rattle.line_by_line.specs.Laws.Cut.{Left, left-so}
 use Rattle.line_by_line.specs.Laws.Order.{judged-pass, judged-fail, first}
 use Rattle.line_by_line.specs.Laws.Said.{stageAfter, said}
@@ -38,20 +40,23 @@ use Rattle.line_by_line.specs.Laws.Taken.{taken}
 
 -- what comes of the lines, by the words: a refusal at its line, or what the frames say
 pub data Way (all : List (List ℕ)) (rest : List ℕ) (x : Going Progress) : Type 0 where
-  stops : (name : Name) (k : ℕ) → RefusedAt all rest name k → x ≡ refused (refusal name k) → Way all rest x
+  stops : (name : Name) (k : ℕ) → RefusedAt all rest name k → x ≡ refused (refusalAt all rest name k) → Way all rest x
   goes-on : ReadsWhole all rest → x ≡ goes (said (framesOf all)) → Way all rest x
 
 -- one line: it goes on with one frame more, or is refused at its number
 module _ (fs : List (List ℕ)) (l : List ℕ) where
   line-passes : allPass order fs l ≡ true → lineStep (said fs) l ≡ goes (said (fs ++ bytesOf l ∷ []))
-  unfolding lineStep byVerdict
+  unfolding lineStep byVerdict located
   line-passes h =
-      ap (λ (v : Verdict). byVerdict v (after (said fs) (bytesOf l))) (judge-same fs l (length fs + 1) ∙ judged-pass fs l order (length fs + 1) h)
+      ap (λ (v : Verdict). byVerdict v (after (said fs) (bytesOf l)))
+      (judge-same fs l (length fs + 1) ∙ ap (located l (badField fs l)) (judged-pass fs l order (length fs + 1) h))
       ∙ ap goes (taken fs l h)
 
-  line-fails : (name : Name) → FirstFails order name fs l → lineStep (said fs) l ≡ refused (refusal name (length fs + 1))
-  unfolding lineStep byVerdict
-  line-fails name x = ap (λ (v : Verdict). byVerdict v (after (said fs) (bytesOf l))) (judge-same fs l (length fs + 1) ∙ judged-fail fs l order name (length fs + 1) x)
+  line-fails : (name : Name) → FirstFails order name fs l → lineStep (said fs) l ≡ refused (inLine l (badField fs l) (refusal name (length fs + 1)))
+  unfolding lineStep byVerdict located
+  line-fails name x =
+      ap (λ (v : Verdict). byVerdict v (after (said fs) (bytesOf l)))
+      (judge-same fs l (length fs + 1) ∙ ap (located l (badField fs l)) (judged-fail fs l order name (length fs + 1) x))
 
 -- line n + 1 is that after n lines
 module _ (all : List (List ℕ)) (n : ℕ) where
@@ -70,6 +75,22 @@ frames-append [] ms = refl
 frames-append (l ∷ ls) ms = ap (λ (r : List (List ℕ)). bytesOf l ∷ r) (frames-append ls ms)
 
 module _ (all : List (List ℕ)) (rest : List ℕ) where
+  -- the faulty line m, where n lines stand before it: the next of them, or the rest
+  faulty-line : (n m : ℕ) → m - 1 ≡ n → n < length all → faultyLine all rest m ≡ getD all n []
+  faulty-line n m e h = ap (λ (j : ℕ). getD (all ++ rest ∷ []) j []) e ∙ List·getD-append all (rest ∷ []) [] n h
+
+  faulty-rest : (m : ℕ) → m - 1 ≡ length all → faultyLine all rest m ≡ rest
+  faulty-rest m e = ap (λ (j : ℕ). getD (all ++ rest ∷ []) j []) e ∙ getD-append-seam all rest [] []
+
+  -- the refusal of either, with its column
+  line-refused : (name : Name) (n m : ℕ) (x : List ℕ) → m - 1 ≡ n → n < length all → x ≡ getD all n [] → inLine x (badField (framesOf (take n all)) x) (refusal name m) ≡ refusalAt all rest name m
+  line-refused name n m x e h q =
+      let y : x ≡ faultyLine all rest m = q ∙ sym (faulty-line n m e h) in
+      λ i. inColumn (columnOf name (y i) (badField (framesOf (take (sym e i) all)) (y i))) (refusal name m)
+
+  rest-refused : (m : ℕ) (x : List ℕ) → m - 1 ≡ length all → x ≡ rest → inLine x 0 (refusal Frame m) ≡ refusalAt all rest Frame m
+  rest-refused m x e q = ap (λ (y : List ℕ). inColumn (frameColumn y) (refusal Frame m)) (q ∙ sym (faulty-rest m e))
+
   -- the first n lines pass
   abbrev PassTo : ℕ → Type 0
   PassTo n = (j : ℕ) → 1 ≤ j → j ≤ n → Passes all j
@@ -122,8 +143,8 @@ module _ (all : List (List ℕ)) (rest : List ℕ) where
       let w : length all - n ≡ 0 = sym (length-drop n all) ∙ ap length (sym e) in
       let k : length (framesOf (take n all)) ≡ n = length-before n l in
       stops Frame (length (framesOf (take n all)) + 1)
-      (record { from-1 = omega arith; before = λ j a b. p j a (omega arith); fault = no-final (omega arith) c refl })
-      refl
+      (record { from-1 = omega arith; before = λ j a b. p j a (omega arith); fault = no-final (omega arith) (c .1) refl })
+      (ap refused (rest-refused (length (framesOf (take n all)) + 1) x (omega arith) (sym (c .0))))
   from-line n (line x ls) e c l p =
       let fs : List (List ℕ) = framesOf (take n all) in
       let w : length all - n ≡ suc (length (endedLines ls)) = sym (length-drop n all) ∙ ap length (sym e) in
@@ -144,7 +165,9 @@ module _ (all : List (List ℕ)) (rest : List ℕ) where
       let m : suc n ≡ length fs + 1 = omega arith in
       stops name (length fs + 1)
       (record { from-1 = omega arith; before = λ j a b. p j a (omega arith); fault = subst (Fault all rest name) m (fails inside f) })
-      (ap (λ (g : Going Progress). reads g ls) (line-fails fs x name (h .1)) ∙ walks-refused sheetReader _ ls))
+      (ap (λ (g : Going Progress). reads g ls) (line-fails fs x name (h .1))
+      ∙ walks-refused sheetReader _ ls
+      ∙ ap refused (line-refused name n (length fs + 1) x (omega arith) inside this)))
       (first fs x order)
 
 -- from line 1 on

@@ -9,11 +9,12 @@ use lib.Dec.{eqb}
 use borrow.Author.Tests.{eqb-true}
 use Rattle.theory.specs.Laws.Tests.{test}
 use Rattle.line_readers.specs.Order.{inOrder}
+use Rattle.line_readers.specs.Column.{located}
 use Rattle.frames.specs.Frame.{bytesOf}
 use Rattle.kinds.specs.declared.Stage.the-variants.{Rows, Ended}
 use Rattle.kinds.specs.Kinds.{HEADER, PERIODIC, TRIGGER, END, kind, sized, mayStand}
 use Rattle.sheet_tests.specs.Judge.{lineTests, judgeLine}
-use Rattle.line_by_line.specs.Tests.{howMany, known, inPlace, passes, order}
+use Rattle.line_by_line.specs.Tests.{howMany, known, inPlace, passes, order, badField}
 use Rattle.line_by_line.specs.Laws.Order.{judged}
 use Rattle.line_by_line.specs.Laws.Said.{stageAfter, said}
 
@@ -63,7 +64,7 @@ unfolding mayStand
 kind-same [] k z = kind-first k z
 kind-same (f ∷ fs) k z = kind-after k z (eqb (howMany END (f ∷ fs)) 0)
 
--- THE LAW: with what was read of these frames, the judge of line l is its tests in their order
-pub judge-same : (fs : List (List ℕ)) (l : List ℕ) (place : ℕ) → judgeLine place (said fs .seen) l ≡ judged fs l order place
+-- THE LAW: with what was read of these frames, the judge of line l is its tests in their order, with the column of the first that fails
+pub judge-same : (fs : List (List ℕ)) (l : List ℕ) (place : ℕ) → judgeLine place (said fs .seen) l ≡ located l (badField fs l) (judged fs l order place)
 unfolding judgeLine inOrder lineTests passes
 judge-same fs l place = rw (kind-same fs (kind (bytesOf l)) (sized (bytesOf l))) refl

@@ -4,7 +4,8 @@ use mathlib.Core.Path.{_≡_, refl, sym, ap, _∙_}
 use mathlib.Core.List.{List}
 use Prim.Native.Nat.{ℕ, _+_, _-_, _≤_, _<_}
 use native.Mathlib.Omega.{arith}
-use lib.ListN.{length, take, drop, drop-of-length-le}
+use lib.ListN.{length, take, drop, length-drop, drop-of-length-le}
+use lib.Seq.{take-all}
 use Rattle.answers.specs.declared.Name.the-variants.{Frame}
 use Rattle.answers.specs.declared.Refusal.{Refusal}
 use Rattle.answers.specs.declared.Verdict.{Verdict}
@@ -12,17 +13,28 @@ use Rattle.answers.specs.declared.Verdict.the-variants.{Pass, Refused}
 use Rattle.answers.specs.Answers.{refusal}
 use Rattle.text.specs.Lines.{Lines, none, endless, line, lines, span}
 use Rattle.text.specs.Laws.Lines.{line-here, endless-here}
+use Rattle.line_readers.specs.Column.{inLine}
 use Rattle.line_readers.specs.Walks.{Going, goes, refused, byVerdict, Reader, walks}
 
 -- a refusal is not 'goes on'
 pub no-goes : {A C : Type 0} (r : Refusal) (z : A) → _≡_ {A = Going A} (refused r) (goes z) → C
 no-goes r z e = absurd (let w : _≡_ {A = ℕ} 0 1 = cc in omega arith)
 
+-- one has one refusal
+pub same-refusal : {A : Type 0} {a b : Refusal} → _≡_ {A = Going A} (refused a) (refused b) → a ≡ b
+same-refusal e = cc
+
 -- what goes on passed
 pub verdict-goes : {A : Type 0} (v : Verdict) (made n : A) → byVerdict v made ≡ goes n → (v ≡ Pass) × (made ≡ n)
 unfolding byVerdict
 verdict-goes Pass made n e = (refl, cc)
 verdict-goes (Refused r) made n e = no-goes r n e
+
+-- and what is refused was
+pub verdict-stops : {A : Type 0} (v : Verdict) (made : A) (r : Refusal) → byVerdict v made ≡ refused r → v ≡ Refused r
+unfolding byVerdict
+verdict-stops Pass made r e = no-goes r made (sym e)
+verdict-stops (Refused x) made r e = ap Refused (same-refusal e)
 
 module _ {A : Type 0} (R : Reader A) where
   -- after a refusal no line is read
@@ -53,9 +65,11 @@ module _ {A : Type 0} (R : Reader A) where
       unfolding walks
       walks-line h = rw (line-here text at e ends h)
 
-      pub walks-endless : at < length text → e ≡ length text → walks R (goes s) (lines (drop at text)) ≡ refused (refusal Frame (R .read s + 1))
+      pub walks-endless : at < length text → e ≡ length text → walks R (goes s) (lines (drop at text)) ≡ refused (inLine (take (e - at) (drop at text)) 0 (refusal Frame (R .read s + 1)))
       unfolding walks
-      walks-endless h k = rw (endless-here text at e ends h k)
+      walks-endless h k =
+          let l : drop at text ≡ take (e - at) (drop at text) = sym (take-all (e - at) (drop at text) (omega (arith, length-drop at text))) in
+          rw (endless-here text at e ends h k) (ap (λ (x : List ℕ). refused (inLine x 0 (refusal Frame (R .read s + 1)))) l)
 
       -- one turn of the loop: what is read from here on stays the whole, and is the answer where the line is refused
       module _ (inside : e < length text) (whole : Going A) (from : walks R (goes s) (lines (drop at text)) ≡ whole) where

@@ -20,10 +20,22 @@ byte-of-requires-3 c κs = search needs
 byte-of-requires-4 : tie.Need-byte-of-requires-4
 byte-of-requires-4 c κs = search needs
 
+byte-of-requires-5 : tie.Need-byte-of-requires-5
+byte-of-requires-5 c κs = search needs
+
+byte-of-requires-6 : tie.Need-byte-of-requires-6
+byte-of-requires-6 c κs = search needs
+
+byte-of-requires-7 : tie.Need-byte-of-requires-7
+byte-of-requires-7 c κs = search needs
+
+byte-of-requires-8 : tie.Need-byte-of-requires-8
+byte-of-requires-8 c κs = search needs
+
 returns : tie.Need-returns
 returns c =
-    let s = c .before .before .before .before .before in
-    cc (refusal-made (s .args .number) (s .args .place) (search needs))
+    let s = c .before .before .before .before .before .before .before .before .before in
+    cc (refusal-made (s .args .number) (s .args .place) (s .args .column) (search needs))
 
 pub refusal-frame-spec : {M : Type 1} → statement M
 refusal-frame-spec =
@@ -34,4 +46,8 @@ refusal-frame-spec =
     byte-of-requires-2
     byte-of-requires-3
     byte-of-requires-4
+    byte-of-requires-5
+    byte-of-requires-6
+    byte-of-requires-7
+    byte-of-requires-8
     returns)

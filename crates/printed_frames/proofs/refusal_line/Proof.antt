@@ -1,4 +1,4 @@
--- `printed_frames::refusal_line` meets its contract: the line of the frame is all of the 15 bytes.
+-- `printed_frames::refusal_line` meets its contract: the line of the frame is all of the 23 bytes.
 -- Assumes nothing.
 use mathlib.Core.Path.{refl, ap, _∙_}
 use Prim.Native.Nat.{ℕ}
@@ -28,7 +28,7 @@ returns c =
     let l = c .before in
     let f = l .before .before .before in
     let r = f .before .before .args .r in
-    l .put-line .ensures ∙ line-all r _ _ refl (f .refusal-frame .ensures ∙ ap (λ (n : ℕ). refusalFrame n (r .place)) (f .before .number-of .ensures))
+    l .put-line .ensures ∙ line-all r _ _ refl (f .refusal-frame .ensures ∙ ap (λ (n : ℕ). refusalFrame n (r .place) (r .column)) (f .before .number-of .ensures))
 
 pub refusal-line-spec : {M : Type 1} → statement M
 refusal-line-spec =

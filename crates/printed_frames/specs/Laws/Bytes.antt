@@ -10,9 +10,13 @@ bytes-in : (k n : ℕ) → Bytes (bytesIn k n)
 bytes-in zero n = bytes-none
 bytes-in (suc k) n = bytes-cons ((n / 256 ^ k) % 256) (bytesIn k n) (omega arith) (bytes-in k n)
 
-pub bytes-refusal : (number place : ℕ) → Bytes (refusalFrame number place)
-bytes-refusal number place =
-    bytes-append (0xe0 ∷ bytesIn 1 number) (bytesIn 4 place) (bytes-cons 0xe0 (bytesIn 1 number) (omega arith) (bytes-in 1 number)) (bytes-in 4 place)
+pub bytes-refusal : (number place column : ℕ) → Bytes (refusalFrame number place column)
+bytes-refusal number place column =
+    bytes-append
+    (0xe0 ∷ bytesIn 1 number)
+    (bytesIn 4 place ++ bytesIn 4 column)
+    (bytes-cons 0xe0 (bytesIn 1 number) (omega arith) (bytes-in 1 number))
+    (bytes-append (bytesIn 4 place) (bytesIn 4 column) (bytes-in 4 place) (bytes-in 4 column))
 
 pub bytes-minute : (instant roles count : ℕ) → Bytes (minuteFrame instant roles count)
 bytes-minute instant roles count =

@@ -14,10 +14,10 @@ use Rattle.prints.specs.Laws.Lengths.{length-line}
 use Rattle.printed_frames.specs.Frames.{refusalFrame, refusalLine}
 use Rattle.printed_frames.specs.Laws.Lengths.{length-refusal}
 
--- E0, number, place, check and the line end: 15 bytes
-pub line-all : (r : Refusal) (d f : List ℕ) → length d ≡ 15 → f ≡ refusalFrame (numberOf (r .name)) (r .place) → paste d 0 (lineOf f) (length (lineOf f)) ≡ refusalLine r
+-- E0, number, place, column, check and the line end: 23 bytes
+pub line-all : (r : Refusal) (d f : List ℕ) → length d ≡ 23 → f ≡ refusalFrame (numberOf (r .name)) (r .place) (r .column) → paste d 0 (lineOf f) (length (lineOf f)) ≡ refusalLine r
 unfolding refusalLine
 line-all r d f l e =
-    let g : List ℕ = refusalFrame (numberOf (r .name)) (r .place) in
+    let g : List ℕ = refusalFrame (numberOf (r .name)) (r .place) (r .column) in
     ap (λ (x : List ℕ). paste d 0 (lineOf x) (length (lineOf x))) e
-    ∙ paste-all d (lineOf g) (omega (arith, l, length-line g, length-refusal (numberOf (r .name)) (r .place)))
+    ∙ paste-all d (lineOf g) (omega (arith, l, length-line g, length-refusal (numberOf (r .name)) (r .place) (r .column)))

@@ -28,12 +28,16 @@ pub minute-made : (instant roles count : ℕ) → count < 256
     ∷ [] ≡ minuteFrame instant roles count
 minute-made instant roles count h = ap (λ (b : ℕ). 0x50 ∷ bytesIn 4 instant ++ (bytesIn 8 roles ++ (b ∷ []))) (byte-byte count h)
 
-pub refusal-made : (number place : ℕ) → number < 256
+pub refusal-made : (number place column : ℕ) → number < 256
     → 0xe0
     ∷ number
     ∷ (place / 0x1000000) % 256
     ∷ (place / 0x10000) % 256
     ∷ (place / 0x100) % 256
     ∷ (place / 1) % 256
-    ∷ [] ≡ refusalFrame number place
-refusal-made number place h = ap (λ (b : ℕ). 0xe0 ∷ b ∷ bytesIn 4 place) (byte-byte number h)
+    ∷ (column / 0x1000000) % 256
+    ∷ (column / 0x10000) % 256
+    ∷ (column / 0x100) % 256
+    ∷ (column / 1) % 256
+    ∷ [] ≡ refusalFrame number place column
+refusal-made number place column h = ap (λ (b : ℕ). 0xe0 ∷ b ∷ bytesIn 4 place ++ bytesIn 4 column) (byte-byte number h)

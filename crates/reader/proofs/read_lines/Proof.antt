@@ -38,6 +38,18 @@ add-refusal-of c = search needs
 refusal-of-requires : tie.Need-refusal-of-requires Inv-loop μ-loop
 refusal-of-requires c κs = search needs
 
+sub-in-line : tie.Need-sub-in-line Inv-loop μ-loop
+sub-in-line c = search needs
+
+part-in-line-start : tie.Need-part-in-line-start Inv-loop μ-loop
+part-in-line-start c = search needs
+
+part-in-line-end : tie.Need-part-in-line-end Inv-loop μ-loop
+part-in-line-end c = search needs
+
+in-line-requires : tie.Need-in-line-requires Inv-loop μ-loop
+in-line-requires c κs = search needs
+
 same-length : tie.Need-same-length Inv-loop μ-loop
 same-length c = search needs
 
@@ -46,10 +58,11 @@ same-length-2 c = search needs
 
 returns : tie.Need-returns Inv-loop μ-loop
 returns c =
-    let t = c .before .before in
+    let r = c .before .before in
+    let t = r .before .before in
     let d = t .before in
     let l = d .before .before in
-    ap refused (c .refusal-of .ensures)
+    ap refused (rw (r .refusal-of .ensures) at (c .in-line .ensures))
     ∙ (sym (walks-endless sheetReader _ _ _ (d .line-end .ensures) _ (d .before .loop-test .taken) (t .if1 .taken)) ∙ l .loop .inv .1 .1)
 
 sub-take : tie.Need-sub-take Inv-loop μ-loop
@@ -138,6 +151,10 @@ read-lines-spec =
     line-end-requires
     add-refusal-of
     refusal-of-requires
+    sub-in-line
+    part-in-line-start
+    part-in-line-end
+    in-line-requires
     same-length
     same-length-2
     returns

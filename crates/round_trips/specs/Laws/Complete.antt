@@ -17,6 +17,7 @@ use Rattle.tables.specs.Lent.{Rules, rules, sheetIn}
 use Rattle.loops.specs.Tested.{tabulate}
 use Rattle.loops.specs.Laws.Levels.{length-tabulate, getD-tabulate}
 use Rattle.prints.specs.Laws.Reads.{Bytes, bytes-none, bytes-cons}
+use Rattle.prints.specs.Laws.Numbers.{four-bytes}
 use Rattle.writer.specs.Laws.Meets.{bytes-tabulate}
 
 -- ---- rows as bytes
@@ -47,16 +48,7 @@ periodicBytes w = lowBytes (periodicNumbers w)
 abbrev triggerBytes : Trigger → List ℕ
 triggerBytes g = lowBytes (triggerNumbers g)
 
--- numbers of four bytes and of two are their bytes
-four-parts : (n x y z a b c : ℕ) → n ≡ 256 * x + a → x ≡ 256 * y + b → y ≡ 256 * z + c → 65536 * (256 * z + c) + (256 * b + a) ≡ n
-four-parts n x y z a b c p q r = omega arith
-
-four-bytes : (n : ℕ) → n < 4294967296 → 65536 * (256 * (n / 16777216 % 256) + n / 65536 % 256) + (256 * (n / 256 % 256) + n % 256) ≡ n
-four-bytes n h =
-    let a : n / 65536 ≡ n / 256 / 256 = omega arith in
-    let b : n / 16777216 % 256 ≡ n / 256 / 256 / 256 = omega arith in
-    rw (a, b) (four-parts n (n / 256) (n / 256 / 256) (n / 256 / 256 / 256) (n % 256) (n / 256 % 256) (n / 256 / 256 % 256) (omega arith) (omega arith) (omega arith))
-
+-- a number of two bytes is its bytes
 two-bytes : (n : ℕ) → n < 65536 → 256 * (n / 256 % 256) + n % 256 ≡ n
 two-bytes n h = omega arith
 

@@ -1,64 +1,58 @@
--- `sheet_tests::line_judged` meets its contract: the calls are the tests of the definition, and `in_order` keeps their order.
+-- `sheet_tests::line_judged` meets its contract: the tests in their order, and a refusal gets its column.
 -- Assumes nothing.
-use mathlib.Core.Path.{_∙_}
-use Rattle.answers.specs.declared.Name.the-variants.{Count}
-use Rattle.line_readers.specs.Order.{inOrder}
-use Rattle.sheet_tests.specs.Judge.{lineTests, judgeLine}
+use mathlib.Core.Path.{sym, ap, _∙_}
+use Rattle.answers.specs.declared.Verdict.the-variants.{Refused}
+use Rattle.line_readers.specs.Column.{located}
+use Rattle.sheet_tests.specs.Judge.{lineField, judgeLine}
 use borrow.Author.Needs.{needs}
 use Rattle.sheet_tests.proofs.line_judged.Statement.{statement}
 use Rattle.sheet_tests.proofs.line_judged.Tie as tie
 
+line-tested-requires : tie.Need-line-tested-requires
+line-tested-requires c κs = search needs
+
+enum-told : tie.Need-enum-told
+enum-told c = search needs
+
+enum-known-v : tie.Need-enum-known-v
+enum-known-v c = search needs
+
 byte-at-requires : tie.Need-byte-at-requires
 byte-at-requires c κs = search needs
 
-is-framed-requires : tie.Need-is-framed-requires
-is-framed-requires c κs = search needs
+bad-byte-requires : tie.Need-bad-byte-requires
+bad-byte-requires c κs = search needs
 
-is-checked-requires : tie.Need-is-checked-requires
-is-checked-requires c κs = search needs
-
-is-kind-requires : tie.Need-is-kind-requires
-is-kind-requires c κs = search needs
-
-has-room-requires : tie.Need-has-room-requires
-has-room-requires c κs = search needs
-
-frame-fits-requires : tie.Need-frame-fits-requires
-frame-fits-requires c κs = search needs
-
-end-agrees-requires : tie.Need-end-agrees-requires
-end-agrees-requires c κs = search needs
-
-in-order-requires : tie.Need-in-order-requires
-in-order-requires c κs = search needs
+in-line-requires : tie.Need-in-line-requires
+in-line-requires c κs = search needs
 
 returns : tie.Need-returns
-unfolding judgeLine lineTests
+unfolding judgeLine located
 returns c =
-    let count = c .before in
-    let field = count .before in
-    let room = field .before in
-    let kind = room .before in
-    let check = kind .before in
-    let frame = check .before in
-    let k = frame .before .byte-at .ensures in
-    let is-kind = rw k at (kind .is-kind .ensures) in
-    let has-room = rw k at (room .has-room .ensures) in
-    let fits = rw k at (field .frame-fits .ensures) in
-    let agrees = rw k at (count .end-agrees .ensures) in
-    c .in-order .ensures
-    ∙ (λ i. inOrder (record { framed = frame .is-framed .ensures i; checked = check .is-checked .ensures i; kind = is-kind i; room = has-room i; field = fits i; last = agrees i }) Count (c .before .before .before .before .before .before .before .before .before .args .place))
+    let t = c .before .before in
+    let a = t .before .before .args in
+    ap (located (a .line .now) (lineField (a .s) (a .line .now))) (sym (c .enum-told .given .1) ∙ t .line-tested .ensures)
+
+returns-2 : tie.Need-returns-2
+unfolding judgeLine located
+returns-2 c =
+    let b = c .before in
+    let k = b .before in
+    let v = k .before .before in
+    let t = v .before .before in
+    let a = t .before .before .args in
+    let byte = rw (k .byte-at .ensures) at (b .bad-byte .ensures) in
+    ap Refused (rw byte at (c .in-line .ensures)) ∙ ap (located (a .line .now) (lineField (a .s) (a .line .now))) (sym (v .v .given .1) ∙ t .line-tested .ensures)
 
 pub line-judged-spec : {M : Type 1} → statement M
 line-judged-spec =
     tie.close
     (tie.spec
+    line-tested-requires
+    enum-told
+    enum-known-v
     byte-at-requires
-    is-framed-requires
-    is-checked-requires
-    is-kind-requires
-    has-room-requires
-    frame-fits-requires
-    end-agrees-requires
-    in-order-requires
-    returns)
+    bad-byte-requires
+    in-line-requires
+    returns
+    returns-2)

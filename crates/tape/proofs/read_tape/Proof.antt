@@ -33,11 +33,25 @@ add-refusal-of c = search needs
 refusal-of-requires : tie.Need-refusal-of-requires Inv-loop μ-loop
 refusal-of-requires c κs = search needs
 
+sub-in-line : tie.Need-sub-in-line Inv-loop μ-loop
+sub-in-line c = search needs
+
+part-in-line-start : tie.Need-part-in-line-start Inv-loop μ-loop
+part-in-line-start c = search needs
+
+part-in-line-end : tie.Need-part-in-line-end Inv-loop μ-loop
+part-in-line-end c = search needs
+
+in-line-requires : tie.Need-in-line-requires Inv-loop μ-loop
+in-line-requires c κs = search needs
+
 returns : tie.Need-returns Inv-loop μ-loop
-returns c = let i = c .before .before in
+returns c =
+    let r = c .before .before in
+    let i = r .before .before in
     let d = i .before in
     let l = d .before .before in
-    ap refused (c .refusal-of .ensures)
+    ap refused (rw (r .refusal-of .ensures) at (c .in-line .ensures))
     ∙ sym (sym (l .loop .inv .1) ∙ walks-endless (tapeReader _) _ _ _ (d .line-end .ensures) _ (d .before .loop-test .taken) (i .if1 .taken))
 
 sub-take : tie.Need-sub-take Inv-loop μ-loop
@@ -109,6 +123,10 @@ read-tape-spec =
     line-end-requires
     add-refusal-of
     refusal-of-requires
+    sub-in-line
+    part-in-line-start
+    part-in-line-end
+    in-line-requires
     returns
     sub-take
     part-take-start

@@ -12,7 +12,9 @@ use Rattle.theory.specs.Laws.Tests.{test}
 use Rattle.answers.specs.declared.Name.the-variants.{Request}
 use Rattle.answers.specs.declared.Refusal.{Refusal}
 use Rattle.answers.specs.declared.Verdict.the-variants.{Pass}
+use Rattle.line_readers.specs.Order.{inOrder}
 use Rattle.line_readers.specs.Laws.Order.{each-passes}
+use Rattle.line_readers.specs.Laws.Column.{located-pass}
 use Rattle.text.specs.Framed.{framed}
 use Rattle.frames.specs.Frame.{bytesOf}
 use Rattle.line_readers.specs.Walks.{Going, goes, refused}
@@ -20,7 +22,7 @@ use Rattle.line_readers.specs.Laws.Walks.{verdict-goes}
 use Rattle.kinds.specs.Kinds.{kind}
 use Rattle.tape_frames.specs.Frame.{ASK, instantOf}
 use Rattle.tape_tests.specs.declared.Heard.{Heard}
-use Rattle.tape_tests.specs.Tests.{ofTape, roomForRequest, inTime, askFits, tapeTests, judgeTape}
+use Rattle.tape_tests.specs.Tests.{ofTape, roomForRequest, inTime, askFits, tapeTests, INSTANT-BYTE, judgeTape}
 use Rattle.tape.specs.declared.Taken.{Taken}
 use Rattle.tape.specs.declared.Taken.the-variants.{Goes, Refused}
 use Rattle.tape.specs.Tape.{heardAfter, tapeStep}
@@ -47,7 +49,7 @@ pub record Passed (roles : ℕ) (s : Heard) (l : List ℕ) : Type 0 where
 pub passes : (place roles : ℕ) (s : Heard) (l : List ℕ) → judgeTape place roles s l ≡ Pass → Passed roles s l
 unfolding judgeTape tapeTests
 passes place roles s l e =
-    let a = each-passes (tapeTests roles s l) Request place e in
+    let a = each-passes (tapeTests roles s l) Request place (located-pass l INSTANT-BYTE (inOrder (tapeTests roles s l) Request place) e) in
     record { is-framed = a .framed; of-tape = a .kind; room = a .room; in-time = a .field; fit = a .last }
 
 -- room for a request more of the same instant

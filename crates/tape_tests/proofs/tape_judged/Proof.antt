@@ -1,59 +1,39 @@
--- `tape_tests::tape_judged` meets its contract: the calls are the tests of the definition, and `in_order` keeps their order.
+-- `tape_tests::tape_judged` meets its contract: the tests in their order, and a refusal gets its column.
 -- Assumes nothing.
-use mathlib.Core.Path.{_∙_}
-use Rattle.answers.specs.declared.Name.the-variants.{Request}
-use Rattle.line_readers.specs.Order.{inOrder}
-use Rattle.tape_tests.specs.Tests.{tapeTests, judgeTape}
+use mathlib.Core.Path.{sym, ap, _∙_}
+use Rattle.answers.specs.declared.Verdict.the-variants.{Refused}
+use Rattle.line_readers.specs.Column.{located}
+use Rattle.tape_tests.specs.Tests.{INSTANT-BYTE, judgeTape}
 use borrow.Author.Needs.{needs}
 use Rattle.tape_tests.proofs.tape_judged.Statement.{statement}
 use Rattle.tape_tests.proofs.tape_judged.Tie as tie
 
-instant-of-requires : tie.Need-instant-of-requires
-instant-of-requires c κs = search needs
+tape-tested-requires : tie.Need-tape-tested-requires
+tape-tested-requires c κs = search needs
 
-is-framed-requires : tie.Need-is-framed-requires
-is-framed-requires c κs = search needs
+enum-told : tie.Need-enum-told
+enum-told c = search needs
 
-is-checked-requires : tie.Need-is-checked-requires
-is-checked-requires c κs = search needs
+enum-known-v : tie.Need-enum-known-v
+enum-known-v c = search needs
 
-of-tape-requires : tie.Need-of-tape-requires
-of-tape-requires c κs = search needs
-
-has-room-requires : tie.Need-has-room-requires
-has-room-requires c κs = search needs
-
-in-time-requires : tie.Need-in-time-requires
-in-time-requires c κs = search needs
-
-ask-fits-requires : tie.Need-ask-fits-requires
-ask-fits-requires c κs = search needs
-
-in-order-requires : tie.Need-in-order-requires
-in-order-requires c κs = search needs
+in-line-requires : tie.Need-in-line-requires
+in-line-requires c κs = search needs
 
 returns : tie.Need-returns
-unfolding judgeTape tapeTests
+unfolding judgeTape located
 returns c =
-    let request = c .before in
-    let time = request .before in
-    let room = time .before in
-    let kind = room .before in
-    let check = kind .before in
-    let frame = check .before in
-    c .in-order .ensures
-    ∙ (λ i. inOrder (record { framed = frame .is-framed .ensures i; checked = check .is-checked .ensures i; kind = kind .of-tape .ensures i; room = room .has-room .ensures i; field = time .in-time .ensures i; last = request .ask-fits .ensures i }) Request (frame .before .before .before .args .place))
+    let t = c .before .before in
+    ap (located (t .before .before .args .line .now) INSTANT-BYTE) (sym (c .enum-told .given .1) ∙ t .tape-tested .ensures)
+
+returns-2 : tie.Need-returns-2
+unfolding judgeTape located
+returns-2 c =
+    let v = c .before .before in
+    let t = v .before .before in
+    ap Refused (c .in-line .ensures) ∙ ap (located (t .before .before .args .line .now) INSTANT-BYTE) (sym (v .v .given .1) ∙ t .tape-tested .ensures)
 
 pub tape-judged-spec : {M : Type 1} → statement M
 tape-judged-spec =
     tie.close
-    (tie.spec
-    instant-of-requires
-    is-framed-requires
-    is-checked-requires
-    of-tape-requires
-    has-room-requires
-    in-time-requires
-    ask-fits-requires
-    in-order-requires
-    returns)
+    (tie.spec tape-tested-requires enum-told enum-known-v in-line-requires returns returns-2)

@@ -3,8 +3,9 @@
 use mathlib.Core.Path.{_≡_, refl, sym, _∙_}
 use mathlib.Core.Bool.{Bool, true, false, _&&_, _||_, Bool·beq, and-true, and-assoc}
 use mathlib.Core.Logic.{⊎-elim}
-use mathlib.Core.List.{List, _∷_}
-use Prim.Native.Nat.{ℕ, _+_, _≤_, _<_}
+use mathlib.Core.List.{List, [], _∷_}
+use Prim.Native.Nat.{ℕ, zero, suc, _+_, _≤_, _<_}
+use native.Mathlib.Omega.{arith}
 use lib.Dec.{leb, eqb·zero-suc, eqb·suc-suc}
 use lib.ListN.{length, getD, drop, drop-of-length-le}
 use Rattle.theory.specs.Below.{allBelow}
@@ -42,3 +43,44 @@ module _ (l : List ℕ) (i : ℕ) (all : Bool) (inv : (all && allDigits (drop i 
 
   pub all-end : length l ≤ i → all ≡ allDigits l
   all-end h = sym (and-true all) ∙ (rw (drop-of-length-le l h) at inv)
+
+-- ---- the first character that is no digit, from i on
+
+pub bad-here : (l : List ℕ) (i : ℕ) → i < length l → isDigit (getD l i 0) ≡ false → firstBad (drop i l) ≡ 0
+bad-here l i h e = rw (here l i h, e)
+
+pub bad-more : (l : List ℕ) (i : ℕ) → i < length l → isDigit (getD l i 0) ≡ true → firstBad (drop i l) ≡ firstBad (drop (i + 1) l) + 1
+bad-more l i h e = rw (here l i h, e) (omega arith)
+
+pub bad-end : (l : List ℕ) (i : ℕ) → length l ≤ i → firstBad (drop i l) ≡ 0
+bad-end l i h = rw (drop-of-length-le l h)
+
+pub first-bad-le : (l : List ℕ) → firstBad l ≤ length l
+first-bad-le [] = omega arith
+first-bad-le (c ∷ l) =
+    ⊎-elim
+    (λ (t : isDigit c ≡ true). rw t (omega (arith, first-bad-le l)))
+    (λ (t : isDigit c ≡ false). rw t (omega arith))
+    (test (isDigit c))
+
+-- all before it are digits, and it is none
+pub bad-before : (l : List ℕ) (i : ℕ) → i < firstBad l → isDigit (getD l i 0) ≡ true
+bad-before [] i h = absurd (omega arith)
+bad-before (c ∷ l) zero h =
+    ⊎-elim
+    (λ (t : isDigit c ≡ true). t)
+    (λ (t : isDigit c ≡ false). let z : 0 < 0 = rw t at h in absurd (omega arith))
+    (test (isDigit c))
+bad-before (c ∷ l) (suc i) h =
+    ⊎-elim
+    (λ (t : isDigit c ≡ true). let z : suc i < suc (firstBad l) = rw t at h in bad-before l i (omega arith))
+    (λ (t : isDigit c ≡ false). let z : suc i < 0 = rw t at h in absurd (omega arith))
+    (test (isDigit c))
+
+pub bad-is : (l : List ℕ) → firstBad l < length l → isDigit (getD l (firstBad l) 0) ≡ false
+bad-is [] h = absurd (omega arith)
+bad-is (c ∷ l) h =
+    ⊎-elim
+    (λ (t : isDigit c ≡ true). let z : suc (firstBad l) < suc (length l) = rw t at h in rw t (bad-is l (omega arith)))
+    (λ (t : isDigit c ≡ false). rw t t)
+    (test (isDigit c))

@@ -1,18 +1,18 @@
 -- Laws of lines: a cursor at the start of a line, and where the line ends. What is left of the text from the cursor on is `drop at text`.
 -- Assumes nothing.
-use mathlib.Core.Path.{_≡_, ap, _∙_}
+use mathlib.Core.Path.{_≡_, refl, ap, _∙_}
 use mathlib.Core.Logic.{⊎-elim}
 use mathlib.Core.Bool.{Bool, true, false, not, _&&_}
-use mathlib.Core.List.{List, [], _∷_}
+use mathlib.Core.List.{List, [], _∷_, _++_}
 use Prim.Native.Nat.{ℕ, suc, _+_, _-_, _≤_, _<_}
 use native.Mathlib.Numerals.{add-one}
 use native.Mathlib.Omega.{arith}
 use lib.Dec.{eqb}
 use lib.ListN.{length, getD, take, drop, length-drop, drop-of-length-le}
 use lib.Seq.{drop-drop, drop-cons}
-use borrow.Author.Tests.{eqb-false, not-true, eq-eqb, ne-eqb}
+use borrow.Author.Tests.{eqb-true, eqb-false, not-true, eq-eqb, ne-eqb}
 use Rattle.theory.specs.Laws.Tests.{and-left, and-right, test}
-use Rattle.text.specs.Lines.{LINE-END, endless, line, lines, span}
+use Rattle.text.specs.Lines.{LINE-END, Lines, none, endless, line, onto, lines, span}
 
 span-le : (l : List ℕ) → span l ≤ length l
 span-le [] = omega arith
@@ -89,3 +89,26 @@ module _ (l : List ℕ) (i k : ℕ) (clear : Bool) (inv : clear ≡ true → spa
       let e : i + (k + 1) ≡ i + k + 1 = omega arith in
       let g = span-more l (i + k) h (eqb-false _ _ (not-true _ (and-right clear _ t))) in
       rw e (omega (arith, inv (and-left clear _ t)))
+
+-- ---- a text is that of its lines
+
+-- the text of lines: each with its 0A behind it
+unfoldable pub textOf : Lines → List ℕ
+textOf none = []
+textOf (endless l) = l
+textOf (line l ls) = l ++ (LINE-END ∷ textOf ls)
+
+pub text-onto : (b : ℕ) (ls : Lines) → textOf (onto b ls) ≡ b ∷ textOf ls
+unfolding textOf
+text-onto b none = refl
+text-onto b (endless l) = refl
+text-onto b (line l ls) = refl
+
+pub text-lines : (text : List ℕ) → textOf (lines text) ≡ text
+unfolding textOf
+text-lines [] = refl
+text-lines (b ∷ text) =
+    ⊎-elim
+    (λ (t : eqb b LINE-END ≡ true). rw t (rw (eqb-true b LINE-END t) (ap (λ (x : List ℕ). LINE-END ∷ x) (text-lines text))))
+    (λ (t : eqb b LINE-END ≡ false). rw t (text-onto b (lines text) ∙ ap (λ (x : List ℕ). b ∷ x) (text-lines text)))
+    (test (eqb b LINE-END))

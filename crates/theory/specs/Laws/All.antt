@@ -1,16 +1,15 @@
 -- Laws of tests as a list: when all pass, and which is the first that fails.
 -- Assumes nothing.
 use mathlib.Core.Path.{_≡_, refl, sym, ap, _∙_}
-use mathlib.Core.Logic.{⊎-elim, _↔_}
-use mathlib.Core.Bool.{Bool, true, false, not, _&&_, and-true, and-assoc, and-comm}
+use mathlib.Core.Bool.{Bool, true, false, _&&_, and-true, and-assoc, and-comm}
 use mathlib.Core.List.{List, [], _∷_, _++_}
-use Prim.Native.Nat.{ℕ, zero, suc, _<_}
+use Prim.Native.Nat.{ℕ, zero, suc, _+_, _<_}
+use native.Mathlib.Nat.{zero-add}
+use native.Mathlib.Omega.{arith}
+use lib.Dec.{eqb, eqb·zero-suc, eqb·suc-suc}
 use lib.ListN.{length, getD}
-use borrow.Author.Tests.{not-true, not-false}
-use Rattle.theory.specs.Below.{allBelow, all, testsBelow, firstFailing}
+use Rattle.theory.specs.Below.{allBelow, all, testsBelow, firstFailing, FailsFirst}
 use Rattle.theory.specs.Laws.Tests.{not-both}
-use Rattle.theory.specs.Laws.Below.{all-intro, all-fails}
-use Rattle.theory.specs.Laws.First.{NoneBelow, FirstAt, first-says, first-below}
 
 pub all-cons : (t : Bool) (ts : List Bool) → all (t ∷ ts) ≡ (t && all ts)
 all-cons t [] = sym (and-true t)
@@ -37,29 +36,38 @@ all-tests (suc n) f ts =
     ∙ sym (and-assoc (f 0) (allBelow n g) (all ts))
     ∙ ap (λ (x : Bool). x && all ts) (all-front n f)
 
--- ---- by their numbers
+-- ---- the first that fails
 
--- test i of a list
-abbrev listed : List Bool → ℕ → Bool
-listed ts i = getD ts i true
+-- none fails exactly where the first that does is past the last
+pub all-first : (ts : List Bool) → all ts ≡ eqb (firstFailing ts) (length ts)
+all-first [] = refl
+all-first (true ∷ ts) = all-cons true ts ∙ all-first ts ∙ sym (eqb·suc-suc (firstFailing ts) (length ts))
+all-first (false ∷ ts) = all-cons false ts ∙ sym (eqb·zero-suc (length ts))
 
-all-listed : (ts : List Bool) → all ts ≡ allBelow (length ts) (listed ts)
-unfolding allBelow
-all-listed [] = refl
-all-listed (t ∷ ts) = all-cons t ts ∙ ap (λ (x : Bool). t && x) (all-listed ts) ∙ all-front (length ts) (listed (t ∷ ts))
+-- THE LAW: where not all pass it is the first that fails
+pub first-failing : (ts : List Bool) → all ts ≡ false → FailsFirst ts (firstFailing ts)
+first-failing [] h = not-both refl h
+first-failing (true ∷ ts) h =
+    let r = first-failing ts (sym (all-cons true ts) ∙ h) in
+    record { below = omega (arith, r .below); fails = r .fails; before = before (r .before) }
+  where
+    before : ((j : ℕ) → j < firstFailing ts → getD ts j true ≡ true) → (j : ℕ) → j < suc (firstFailing ts) → getD (true ∷ ts) j true ≡ true
+    before b zero l = refl
+    before b (suc j) l = b j (omega arith)
+first-failing (false ∷ ts) h = record { below = omega arith; fails = refl; before = λ j l. absurd (omega arith) }
 
--- they do not all pass exactly where there is a first that fails
-pub fails-first : (ts : List Bool) → (all ts ≡ false) ↔ (firstFailing ts < length ts)
-fails-first ts =
-    let n : ℕ = length ts in
-    let f : ℕ → Bool = listed ts in
-    let g : ℕ → Bool = λ i. not (f i) in (
-      (λ h.
-          ⊎-elim
-          (λ (e : (firstFailing ts ≡ n) × NoneBelow n g). not-both (all-listed ts ∙ all-intro n f (λ i l. not-false (f i) (e .1 i l))) h)
-          (λ (r : FirstAt n g (firstFailing ts)). r .below)
-          (first-says n g)),
-      (λ h.
-          let r : FirstAt n g (firstFailing ts) = first-below n g h in
-          all-listed ts ∙ all-fails n f (firstFailing ts) h (not-true (f (firstFailing ts)) (r .passes))),
-    )
+-- after the tests of the numbers below n, where all of these pass
+pub tests-pass : (n : ℕ) (f : ℕ → Bool) (ts : List Bool) → ((j : ℕ) → j < n → f j ≡ true) → firstFailing (testsBelow n f ++ ts) ≡ n + firstFailing ts
+tests-pass zero f ts h = sym (zero-add (firstFailing ts))
+tests-pass (suc n) f ts h = rw (h 0 (omega arith)) (omega (arith, tests-pass n (λ i. f (suc i)) ts (λ j l. h (suc j) (omega arith))))
+
+-- and where k is the first of them that fails
+pub tests-fail : (n : ℕ) (f : ℕ → Bool) (ts : List Bool) (k : ℕ) → k < n → f k ≡ false → ((j : ℕ) → j < k → f j ≡ true) → firstFailing (testsBelow n f ++ ts) ≡ k
+tests-fail zero f ts k l e h = absurd (omega arith)
+tests-fail (suc n) f ts zero l e h = rw e refl
+tests-fail (suc n) f ts (suc k) l e h =
+    rw (h 0 (omega arith)) (ap suc (tests-fail n (λ i. f (suc i)) ts k (omega arith) e (λ j m. h (suc j) (omega arith))))
+
+pub length-tests : (n : ℕ) (f : ℕ → Bool) (ts : List Bool) → length (testsBelow n f ++ ts) ≡ n + length ts
+length-tests zero f ts = sym (zero-add (length ts))
+length-tests (suc n) f ts = omega (arith, length-tests n (λ i. f (suc i)) ts)

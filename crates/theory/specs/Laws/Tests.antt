@@ -3,6 +3,7 @@
 use mathlib.Core.Path.{_≡_, refl, sym, ap, _∙_}
 use mathlib.Core.Logic.{_⊎_, inl, inr}
 use mathlib.Core.Bool.{Bool, true, false, not, _&&_, _||_, or-false, or-comm, or-assoc, true≢false, false≢true}
+use borrow.Author.Tests.{not-true, not-false}
 
 pub and-left : (a b : Bool) → (a && b) ≡ true → a ≡ true
 and-left true b h = refl
@@ -52,6 +53,13 @@ not-both p q = absurd (true≢false (sym p ∙ q))
 
 pub fails-not : {b : Bool} → b ≡ false → not b ≡ true
 fails-not p = rw p refl
+
+-- what a call said of a test t, where the code asked its negation
+pub held : {r t : Bool} → r ≡ t → not r ≡ false → t ≡ true
+held {r} e n = sym e ∙ not-false r n
+
+pub fell : {r t : Bool} → r ≡ t → not r ≡ true → t ≡ false
+fell {r} e n = sym e ∙ not-true r n
 
 pub is-false : (b : Bool) → (b ≡ true → ⊥) → b ≡ false
 is-false true f = absurd (f refl)

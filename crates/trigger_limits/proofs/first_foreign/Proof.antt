@@ -1,25 +1,24 @@
--- `trigger_limits::all_of_roles` meets its contract. The loop's invariant: each of the bytes below j is within the limit.
+-- `trigger_limits::first_foreign` meets its contract. The loop's invariant: none of the bytes below j is found.
 -- Assumes nothing.
-use mathlib.Core.Path.{_≡_, sym}
-use mathlib.Core.Bool.{Bool, true, false}
+use mathlib.Core.Path.{_≡_}
+use mathlib.Core.Bool.{Bool, true, false, not}
 use Prim.Native.Nat.{ℕ, _+_, _-_, _≤_}
-use borrow.Author.Tests.{not-true, not-false}
-use Rattle.theory.specs.Below.{allBelow}
+use Rattle.theory.specs.Below.{firstBelow}
 use Rattle.theory.specs.Sheet.{ofRoles}
-use Rattle.theory.specs.Laws.Below.{all-none, all-next, all-end, all-fails}
+use Rattle.theory.specs.Laws.First.{search-none, search-next, search-found, search-end}
 use Rattle.tables.specs.Layout.{byteAt}
 use borrow.Author.Needs.{needs}
-use Rattle.trigger_limits.proofs.all_of_roles.Statement.{statement}
-use Rattle.trigger_limits.proofs.all_of_roles.Tie as tie
+use Rattle.trigger_limits.proofs.first_foreign.Statement.{statement}
+use Rattle.trigger_limits.proofs.first_foreign.Tie as tie
 
 abbrev Inv-loop : tie.InvT-loop
-Inv-loop table at n roles j₀ j = (j ≤ n) × (allBelow j (λ x. ofRoles roles (byteAt table (at + x))) ≡ true)
+Inv-loop table at n roles j₀ j = (j ≤ n) × (firstBelow j (λ x. not (ofRoles roles (byteAt table (at + x)))) ≡ j)
 
 abbrev μ-loop : tie.MeasureT-loop
 μ-loop table at n roles j₀ j = n - j
 
 loop-holds : tie.Need-loop-holds Inv-loop μ-loop
-loop-holds c = (search needs, all-none _)
+loop-holds c = (search needs, search-none _)
 
 index-requires : tie.Need-index-requires Inv-loop μ-loop
 index-requires c κs = search needs
@@ -37,9 +36,9 @@ returns : tie.Need-returns Inv-loop μ-loop
 returns c =
     let d = c .before .before .before .before .before in
     let a = d .before .before .args in
-    let f : ℕ → Bool = λ x. ofRoles (a .roles) (byteAt (a .table .now) (a .at + x)) in
-    let z : f (d .loop .j) ≡ false = cc (not-true (c .before .of-roles .result) (c .if1 .taken)) in
-    sym (all-fails (a .n) f (d .loop .j) (search needs) z)
+    let f : ℕ → Bool = λ x. not (ofRoles (a .roles) (byteAt (a .table .now) (a .at + x))) in
+    let z : f (d .loop .j) ≡ true = cc (c .if1 .taken) in
+    search-found (d .loop .j) f (d .loop .inv .1) (a .n) (search needs) z
 
 add-j : tie.Need-add-j Inv-loop μ-loop
 add-j c = search needs
@@ -51,17 +50,17 @@ loop-again : tie.Need-loop-again Inv-loop μ-loop
 loop-again c =
     let d = c .before .before .before .before .before in
     let a = d .before .before .args in
-    let f : ℕ → Bool = λ x. ofRoles (a .roles) (byteAt (a .table .now) (a .at + x)) in
-    let z : f (d .loop .j) ≡ true = cc (not-false (c .before .of-roles .result) (c .if1 .left)) in
-    (search needs, all-next (d .loop .j) f (d .loop .inv .1) z)
+    let f : ℕ → Bool = λ x. not (ofRoles (a .roles) (byteAt (a .table .now) (a .at + x))) in
+    let z : f (d .loop .j) ≡ false = cc (c .if1 .left) in
+    (search needs, search-next (d .loop .j) f (d .loop .inv .1) z)
 
 returns-2 : tie.Need-returns-2 Inv-loop μ-loop
 returns-2 c =
     let a = c .before .before .before .args in
-    sym (all-end (a .n) (c .before .loop .j) (λ x. ofRoles (a .roles) (byteAt (a .table .now) (a .at + x))) (search needs) (search needs) (c .before .loop .inv .1))
+    search-end (a .n) (c .before .loop .j) (λ x. not (ofRoles (a .roles) (byteAt (a .table .now) (a .at + x)))) (search needs) (search needs) (c .before .loop .inv .1)
 
-pub all-of-roles-spec : {M : Type 1} → statement M
-all-of-roles-spec =
+pub first-foreign-spec : {M : Type 1} → statement M
+first-foreign-spec =
     tie.close
     (tie.spec
     Inv-loop
