@@ -19,7 +19,7 @@ use Rattle.faulty_line.specs.declared.Part.{Part}
 use Rattle.faulty_line.specs.declared.Span.{Span}
 use Rattle.faulty_line.specs.declared.Spot.{Spot}
 use Rattle.faulty_line.specs.declared.Spot.the-variants.{At, Past}
-use Rattle.faulty_line.specs.Part.{hasLine, lineAt, tapesEnd, inTape, inSheet, faultyPart, shown}
+use Rattle.faulty_line.specs.Part.{hasLine, spotOf, tapesEnd, inTape, inSheet, faultyPart, shown}
 pub mod Shown
 
 -- ---- where a line stands
@@ -46,13 +46,13 @@ pub data Sought (text : List ℕ) (ls : Lines) (k : ℕ) (s : Spot) : Type 0 whe
   found : (g : Span) → s ≡ At g → k < length (allLines ls) → Stands text (getD (allLines ls) k []) g → Sought text ls k s
   passed : (n : ℕ) → s ≡ Past n → k ≡ length (allLines ls) + n → Sought text ls k s
 
-sought : (pre : List ℕ) (k : ℕ) (ls : Lines) → Sought (pre ++ textOf ls) ls k (lineAt (length pre) k ls)
+sought : (pre : List ℕ) (k : ℕ) (ls : Lines) → Sought (pre ++ textOf ls) ls k (spotOf (length pre) k ls)
 unfolding textOf
 sought pre k none = passed k refl (omega arith)
 sought pre zero (endless l) = found _ refl (omega arith) (subst (λ (t : List ℕ). Stands (pre ++ t) l (record { from = length pre; to = length pre + length l })) (append-nil l) (stands-here pre l []))
 sought pre (suc k) (endless l) = passed k refl (omega arith)
 sought pre zero (line l ls) = found _ refl (omega arith) (stands-here pre l (LINE-END ∷ textOf ls))
-sought pre (suc k) (line l ls) = more (subst (λ (n : ℕ). Sought (pre ++ (l ++ LINE-END ∷ textOf ls)) ls k (lineAt n k ls)) size (subst (λ (t : List ℕ). Sought t ls k (lineAt (length on) k ls)) same (sought on k ls)))
+sought pre (suc k) (line l ls) = more (subst (λ (n : ℕ). Sought (pre ++ (l ++ LINE-END ∷ textOf ls)) ls k (spotOf n k ls)) size (subst (λ (t : List ℕ). Sought t ls k (spotOf (length on) k ls)) same (sought on k ls)))
   where
     -- what stands before the next line
     on : List ℕ
@@ -69,8 +69,8 @@ sought pre (suc k) (line l ls) = more (subst (λ (n : ℕ). Sought (pre ++ (l ++
     more (passed n e h) = passed n e (omega arith)
 
 -- of a text
-pub line-sought : (text : List ℕ) (k : ℕ) → Sought text (lines text) k (lineAt 0 k (lines text))
-line-sought text k = subst (λ (t : List ℕ). Sought t (lines text) k (lineAt 0 k (lines text))) (text-lines text) (sought [] k (lines text))
+pub line-sought : (text : List ℕ) (k : ℕ) → Sought text (lines text) k (spotOf 0 k (lines text))
+line-sought text k = subst (λ (t : List ℕ). Sought t (lines text) k (spotOf 0 k (lines text))) (text-lines text) (sought [] k (lines text))
 
 -- ---- the search, with the cursor at the start of a line, which ends at e
 
@@ -79,15 +79,15 @@ module _ (text : List ℕ) (at e : ℕ) (ends : e ≡ at + span (drop at text)) 
   size-here : length (take (e - at) (drop at text)) ≡ e - at
   size-here = length-take-le (e - at) (drop at text) (omega (arith, end-le text at e ends (omega arith), length-drop at text))
 
-  pub seek-next : (n : ℕ) → e < length text → lineAt at (suc n) (lines (drop at text)) ≡ lineAt (e + 1) n (lines (drop (e + 1) text))
+  pub seek-next : (n : ℕ) → e < length text → spotOf at (suc n) (lines (drop at text)) ≡ spotOf (e + 1) n (lines (drop (e + 1) text))
   seek-next n h =
       let k : at + length (take (e - at) (drop at text)) + 1 ≡ e + 1 = omega (arith, size-here, ends) in
-      rw (line-here text at e ends h) (ap (λ (x : ℕ). lineAt x n (lines (drop (e + 1) text))) k)
+      rw (line-here text at e ends h) (ap (λ (x : ℕ). spotOf x n (lines (drop (e + 1) text))) k)
 
-  pub seek-past : (n : ℕ) → e ≡ length text → lineAt at (suc n) (lines (drop at text)) ≡ Past n
+  pub seek-past : (n : ℕ) → e ≡ length text → spotOf at (suc n) (lines (drop at text)) ≡ Past n
   seek-past n h = rw (endless-here text at e ends inside h) refl
 
-  pub seek-found : lineAt at 0 (lines (drop at text)) ≡ At (record { from = at; to = e })
+  pub seek-found : spotOf at 0 (lines (drop at text)) ≡ At (record { from = at; to = e })
   seek-found =
       by-cases (decLt e (length text))
       (λ (h : e < length text).
@@ -109,14 +109,14 @@ module _ (sheet tape : List ℕ) where
   end-within : Within (tapesEnd tape)
   end-within = record { begins = omega arith; ends = omega arith }
 
-  tape-within : (k : ℕ) → Within (inTape tape (lineAt 0 k (lines tape)))
+  tape-within : (k : ℕ) → Within (inTape tape (spotOf 0 k (lines tape)))
   tape-within k = by-sought (line-sought tape k)
     where
       by-sought : {s : Spot} → Sought tape (lines tape) k s → Within (inTape tape s)
       by-sought (found g e h x) = subst (λ (s : Spot). Within (inTape tape s)) (sym e) (record { begins = x .begins; ends = x .ends })
       by-sought (passed n e h) = subst (λ (s : Spot). Within (inTape tape s)) (sym e) end-within
 
-  sheet-within : (k : ℕ) → Within (inSheet tape (lineAt 0 k (lines sheet)))
+  sheet-within : (k : ℕ) → Within (inSheet tape (spotOf 0 k (lines sheet)))
   sheet-within k = by-sought (line-sought sheet k)
     where
       by-sought : {s : Spot} → Sought sheet (lines sheet) k s → Within (inSheet tape s)
@@ -132,7 +132,7 @@ module _ (sheet tape : List ℕ) where
     unfolding faultyPart
     no-place h z = rw (h, eq-eqb _ _ z) refl
 
-    pub at-place : hasLine (r .name) ≡ true → ¬ (r .place ≡ 0) → inSheet tape (lineAt 0 (r .place - 1) (lines sheet)) ≡ faultyPart sheet tape r
+    pub at-place : hasLine (r .name) ≡ true → ¬ (r .place ≡ 0) → inSheet tape (spotOf 0 (r .place - 1) (lines sheet)) ≡ faultyPart sheet tape r
     unfolding faultyPart
     at-place h z = rw (h, ne-eqb _ _ z) refl
 

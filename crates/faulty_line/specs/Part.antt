@@ -28,12 +28,12 @@ hasLine Last = false
 
 -- the line before which k others stand, in lines that begin at byte `from`: from which byte up to which, its 0A left out; or, where there are too few, how many
 -- further lines are to be passed in the text that follows
-abbrev pub lineAt : ℕ → ℕ → Lines → Spot
-lineAt from k none = Past k
-lineAt from zero (endless l) = At (record { from = from; to = from + length l })
-lineAt from (suc k) (endless l) = Past k
-lineAt from zero (line l ls) = At (record { from = from; to = from + length l })
-lineAt from (suc k) (line l ls) = lineAt (from + length l + 1) k ls
+abbrev pub spotOf : ℕ → ℕ → Lines → Spot
+spotOf from k none = Past k
+spotOf from zero (endless l) = At (record { from = from; to = from + length l })
+spotOf from (suc k) (endless l) = Past k
+spotOf from zero (line l ls) = At (record { from = from; to = from + length l })
+spotOf from (suc k) (line l ls) = spotOf (from + length l + 1) k ls
 
 -- the empty part at the tape's end
 abbrev pub tapesEnd : List ℕ → Part
@@ -46,13 +46,13 @@ inTape tape (Past k) = tapesEnd tape
 
 abbrev pub inSheet : List ℕ → Spot → Part
 inSheet tape (At g) = record { tape = false; from = g .from; to = g .to }
-inSheet tape (Past k) = inTape tape (lineAt 0 k (lines tape))
+inSheet tape (Past k) = inTape tape (spotOf 0 k (lines tape))
 
 -- THE PART of a refusal of a sheet or of its tape: the line of its place, counted from 1; where the place is no line, or the two have not so many, the empty part at the tape's end
 unfoldable pub faultyPart : List ℕ → List ℕ → Refusal → Part
 faultyPart sheet tape r =
     cond (hasLine (r .name))
-    (cond (eqb (r .place) 0) (tapesEnd tape) (inSheet tape (lineAt 0 (r .place - 1) (lines sheet))))
+    (cond (eqb (r .place) 0) (tapesEnd tape) (inSheet tape (spotOf 0 (r .place - 1) (lines sheet))))
     (tapesEnd tape)
 
 -- the bytes of a part

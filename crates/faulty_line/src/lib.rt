@@ -1,7 +1,7 @@
 // The line for the screen: of a refusal the line that its place names, without its 0A, as a part of the sheet or of the tape, whichever was refused.
 ghost use mathlib.Core.Path.{_≡_};
 ghost use Rattle.text.specs.Lines.{lines};
-ghost use Rattle.faulty_line.specs.Part.{hasLine, lineAt, tapesEnd, inTape, faultyPart, shown};
+ghost use Rattle.faulty_line.specs.Part.{hasLine, spotOf, tapesEnd, inTape, faultyPart, shown};
 use answers::Name;
 use answers::Refusal;
 
@@ -44,7 +44,7 @@ fn has_line(name: Name) -> bool
 
 // The line of a text before which k others stand.
 fn seek(text: &[u8], k: u32) -> Spot
-    ensures { λ r. ⌜ r ≡ lineAt 0 k (lines (now (text .entry))) ⌝ }
+    ensures { λ r. ⌜ r ≡ spotOf 0 k (lines (now (text .entry))) ⌝ }
 {
     let mut left = k;
     let mut at: usize = 0;
@@ -75,7 +75,7 @@ fn end_of(tape: &[u8]) -> Part
 
 // What a line that was found in the tape is, or else the tape's end.
 fn in_tape(tape: &[u8], k: u32) -> Part
-    ensures { λ r. ⌜ r ≡ inTape (now (tape .entry)) (lineAt 0 k (lines (now (tape .entry)))) ⌝ }
+    ensures { λ r. ⌜ r ≡ inTape (now (tape .entry)) (spotOf 0 k (lines (now (tape .entry)))) ⌝ }
 {
     let s = seek(tape, k);
     match s {
