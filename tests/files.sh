@@ -29,9 +29,11 @@ wrong() { tried 2 /dev/null "$@" && holds examples/mixed.sheet; }
 sheet_into_file() {
     outs=$work/outs
     mkdir "$outs" && mkfifo "$work/line" && cp examples/mixed.day "$outs/out" && chmod 640 "$outs/out" || return 1
-    tried 0 /dev/null -o "$outs/out" "$outs/out" && holds examples/mixed.sheet || return 1
+    ln "$outs/out" "$work/kept" || return 1
+    tried 0 /dev/null -o "$outs/out" "$outs/out" && holds examples/mixed.sheet && cmp examples/mixed.day "$work/kept" || return 1
     tried 1 examples/damaged.frames -o "$outs/out" examples/damaged.day && holds examples/mixed.sheet || return 1
     wrong -o && wrong examples/mixed.day -o "$outs/out" -o "$outs/out" && wrong -o "$outs" examples/mixed.day || return 1
+    ln -s out "$work/link" && wrong -o "$work/link" examples/mixed.day || return 1
     wrong -o "$outs/none/out" examples/mixed.day && wrong -o "$work/line" examples/mixed.day && wrong --roles 3=Adjust || return 1
     tried 0 /dev/null -o "$outs/new" examples/mixed.day && cmp examples/mixed.sheet "$outs/new" || return 1
     ./box sheet examples/mixed.day | ./box day | cmp examples/mixed.frames - && say 'mixed: into a file, which may be the input, and on into a day'

@@ -156,7 +156,7 @@ FNR == 1 {
 }
 FILENAME ~ /\.antt$/ { take_spec($0) }
 FILENAME ~ /\.rt$/ { take_code($0) }
-FILENAME ~ /\.md$/ { take_stored($0) }
+FILENAME ~ /\.md$/ { take_stored($0); take_theorems($0) }
 
 # ---- following: the words of a text
 
@@ -374,6 +374,53 @@ function take_stored(line,    n, i, w, f) {
     if (line == "<!-- tools/rests: begin -->") in_list = marks = 1
 }
 
+# the theorems that docs/CLAIMS.md names below each entry, a line - **`name` (crate/src)**, and below anything else
+function take_theorems(line,    n, i, w) {
+    if (line ~ /^- /) {
+        split(line, w, /[`()]/)
+        below = line ~ /^- \*\*`[a-z_]+` \([a-z_]+\/src\)\*\*$/ ? w[4] SUBSEP w[2] : ""
+        if (below in entry) is_told[below] = 1
+    }
+    if (line !~ /^    /) in_theorems = line ~ /^  - theorems: /
+    n = in_theorems ? split(line, w, "`") : 0
+    for (i = 2; i <= n; i += 2) named[below, w[i]] = 1
+}
+
+# what a statement speaks of: all that it cites, by itself or through the words of these files
+function speaks(what, k,    n, i, w) {
+    follow(k)
+    n = split(cites[k], w, "\n") - 1
+    for (i = 1; i <= n; i++) if (!((what, w[i]) in spoken_of)) {
+        spoken_of[what, w[i]] = 1
+        if (file_of(w[i]) ~ /^(claims\/Words|runs\/Runs)$/) speaks(what, w[i])
+    }
+}
+
+# below each entry stand the theorems that speak of its outcome, which its contract cites; and apart from them those that speak of none
+function compare_theorems(    i, j, k, e, any, is_theorem) {
+    for (e in entry) {
+        follow(e)
+        if (!index("\n" cites[e], "\n" entry[e] "\n")) amiss("the contract of " name_of(e) " does not cite " name_of(entry[e]) ", which tools/rests.awk takes for its outcome")
+        if (!(e in is_told)) amiss("docs/CLAIMS.md does not say the contract of " name_of(e) " in words")
+    }
+    for (i = 1; i <= key_count; i++) if (is_demand(k = keys[i])) {
+        is_theorem[name_of(k)] = 1
+        speaks(k, k)
+        any = 0
+        for (e in entry) {
+            if ((k, entry[e]) in spoken_of) any = 1
+            if ((k, entry[e]) in spoken_of && !((e, name_of(k)) in named)) amiss("docs/CLAIMS.md does not name " name_of(k) " below " name_of(e) ", of whose outcome it speaks")
+            if (!((k, entry[e]) in spoken_of) && (e, name_of(k)) in named) amiss("docs/CLAIMS.md names " name_of(k) " below " name_of(e) ", of whose outcome it does not speak")
+        }
+        if (!any && !(("", name_of(k)) in named)) amiss("docs/CLAIMS.md does not name " name_of(k) " among those that speak of no entry's outcome")
+        if (any && ("", name_of(k)) in named) amiss("docs/CLAIMS.md names " name_of(k) " among those that speak of no entry's outcome")
+    }
+    for (k in named) {
+        sub(".*" SUBSEP, "", k)
+        if (!(k in is_theorem)) amiss("docs/CLAIMS.md names " k ", which is no theorem of claims/Demands")
+    }
+}
+
 function compare(    i, k, differs) {
     if (!marks) { amiss("docs/CLAIMS.md has no list of what is to be read: the marks <!-- tools/rests: begin --> and <!-- tools/rests: end --> are missing"); return }
     for (i = 1; i <= key_count; i++) {
@@ -399,7 +446,27 @@ function of_the_kit(    i, n, f, names, order, out) {
     return out
 }
 
-# a row for each file in the order of crates.txt, and the totals
+# a text in lines of at most 180 characters
+function folded(text,    n, i, w, line, out) {
+    n = split(text, w, " ")
+    for (i = 1; i <= n; i++) {
+        if (line != "" && length(line) + 1 + length(w[i]) > 180) { out = out line "\n"; line = "" }
+        line = joined(line, w[i], " ")
+    }
+    return out line "\n"
+}
+
+# the row of a file, or more where it would be too long: its lines are counted in the first
+function rows(f, lines, names,    n, i, w, row, out) {
+    n = split(names, w, ", ")
+    for (i = 1; i <= n; i++) {
+        if (row != "" && length(row) + 2 + length(w[i]) > 150) { out = out "| " f " | " lines " | " row " |\n"; lines = "–"; row = "" }
+        row = joined(row, w[i], ", ")
+    }
+    return out "| " f " | " lines " | " row " |\n"
+}
+
+# rows for each file in the order of crates.txt, and the totals
 function list(    i, k, f, names, sum, all, definitions, specs, of, codes, out) {
     for (i = 1; i <= key_count; i++) if (is_read(k = keys[i])) {
         f = file_of(k)
@@ -410,13 +477,13 @@ function list(    i, k, f, names, sum, all, definitions, specs, of, codes, out) 
     }
     for (i = 1; i <= file_count; i++) {
         f = files[i]
-        if (f in names) out = out "| " f " | " sum[f] " | " names[f] " |\n"
+        if (f in names) out = out rows(f, sum[f], names[f])
         if (f in names && is_code(f)) codes++
         if (f in names && !is_code(f)) specs++
         if (!is_code(f) && !is_proofs(f) && f !~ /\/Lib$/ && !((f, "*") in excuse)) of++
     }
     return "| File | Lines | Definitions |\n|---|---|---|\n" out "\nIn all " definitions " definitions, " comma(all) " lines without comments: in " specs " of " of " files of definitions, and as types in " codes " files of code.\n" \
-        "Of the kit's libraries they use " of_the_kit() ".\n"
+        folded("Of the kit's libraries they use " of_the_kit() ".")
 }
 
 BEGIN {
@@ -426,8 +493,11 @@ BEGIN {
     for (i in w) relation[w[i]] = 1
     split("ℕ Bool List String Char", w, " ")
     for (i in w) kit_data[w[i]] = 1
-    n = split("reader::read_sheet writer::write_sheet step::step entry::step_requests resend::resend day_print::day faulty_line::faulty_line faulty_line::faulty_part", w, " ")
-    for (i = 1; i <= n; i++) entry[before(w[i], "::") "/src" SUBSEP after(w[i], "::")] = 1
+    # the functions that others call, each with the definition of its outcome
+    n = split("reader/src read_sheet reader/Reading reading writer/src write_sheet writer/Outcome WriteOutcome step/src step step/Outcome Outcome entry/src step_requests step/Outcome Outcome" \
+        " resend/src resend resend/Resend ResendOutcome day_print/src day day_print/Day DayOutcome" \
+        " faulty_line/src faulty_line faulty_line/Part shown faulty_line/src faulty_part faulty_line/Part faultyPart", w, " ")
+    for (i = 1; i <= n; i += 4) entry[w[i] SUBSEP w[i + 1]] = w[i + 2] SUBSEP w[i + 3]
     # proofs that stand among definitions, and why
     excuse["claims/Demands" SUBSEP "*"] = "the theorems that an auditor reads first"
     excuse["claims/Functions" SUBSEP "*"] = "the theorems of every public function"
@@ -440,6 +510,7 @@ END {
     section = list()
     if (mode == "print") { printf "%s", section; exit bad }
     compare()
+    compare_theorems()
     for (i = 1; i <= key_count; i++) judge(keys[i])
     for (k in excuse) if (!(k in is_needed)) amiss("tools/rests.awk excuses " name_of(k) " of " file_of(k) ", which needs no excuse")
     exit bad

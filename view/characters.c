@@ -44,11 +44,25 @@ size_t character_at(const char *text, uint32_t *number)
 }
 
 /*
- * Whether the character can be seen, or is a blank: it is no control, ends no line, does not turn
- * the direction of writing, and may stand in a picture's file.
+ * Whether the character can be seen, or is a blank as others are: it is no control, ends no line,
+ * does not turn the direction of writing, is not without a width or a blank of another width, so
+ * that two names would look the same, and may stand in a picture's file.
  */
 int printable(uint32_t number)
 {
-    return number >= 0x20 && !(number >= 0x7F && number < 0xA0)
-        && !(number >= 0x2028 && number <= 0x202E) && number != 0xFFFE && number != 0xFFFF;
+    static const struct {
+        uint32_t from, to;
+    } barred[] = {{0, 0x1F},         {0x7F, 0x9F},      {0xAD, 0xAD},      {0x61C, 0x61C},
+                  {0x115F, 0x1160},  {0x1680, 0x1680},  {0x180B, 0x180F},  {0x2000, 0x200F},
+                  {0x2028, 0x202F},  {0x205F, 0x206F},  {0x2800, 0x2800},  {0x3000, 0x3000},
+                  {0x3164, 0x3164},  {0xFEFF, 0xFEFF},  {0xFFA0, 0xFFA0},  {0xFFF0, 0xFFFB},
+                  {0xFFFE, 0xFFFF},  {0xE0000, 0xE0FFF}};
+    size_t i;
+
+    for (i = 0; i < sizeof barred / sizeof barred[0]; i++) {
+        if (number >= barred[i].from && number <= barred[i].to) {
+            return 0;
+        }
+    }
+    return 1;
 }

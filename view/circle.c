@@ -104,19 +104,23 @@ static void find_ways(const struct sheet *sheet, unsigned start, unsigned before
     }
 }
 
-/* The triggers that draw an edge, as 'triggers 0, 4 and 7'; whether there are several. */
+/*
+ * The triggers that draw an edge, each with its line, as 'trigger 0 (line 3), trigger 4 (line 9)
+ * and trigger 7 (line 12)'; whether there are several.
+ */
 static int say_triggers(const struct sheet *sheet, struct edge edge)
 {
-    unsigned row = drawn_by(sheet, edge, 0), next = drawn_by(sheet, edge, row + 1);
-    int several = next < sheet->trigger_count;
+    unsigned row, next, count = 0;
 
-    printf("%s %u", several ? "triggers" : "trigger", row);
-    while (next < sheet->trigger_count) {
-        row = next;
+    for (row = drawn_by(sheet, edge, 0); row < sheet->trigger_count; row = next) {
         next = drawn_by(sheet, edge, row + 1);
-        printf("%s %u", next < sheet->trigger_count ? "," : " and", row);
+        if (count > 0) {
+            printf(next < sheet->trigger_count ? ", " : " and ");
+        }
+        printf("trigger %u (line %lu)", row, sheet->trigger_line[row]);
+        count++;
     }
-    return several;
+    return count > 1;
 }
 
 /* One step of the circle, on a line of its own. */
@@ -125,21 +129,21 @@ static void say_step(const struct names *names, const struct sheet *sheet, struc
     int several;
 
     printf("  ");
-    say_event(names, edge.from);
+    say_event(stdout, names, edge.from);
     if (edge.sign == PLUS) {
         printf(" can give ");
-        say_event(names, edge.to);
-        printf(" (");
+        say_event(stdout, names, edge.to);
+        printf(", by ");
         say_triggers(sheet, edge);
-        printf(")\n");
+        printf("\n");
         return;
     }
     printf(" can block ");
-    say_event(names, edge.from ^ 1);
+    say_event(stdout, names, edge.from ^ 1);
     printf(", which ");
     several = say_triggers(sheet, edge);
     printf(several ? " need for " : " needs for ");
-    say_event(names, edge.to);
+    say_event(stdout, names, edge.to);
     printf("\n");
 }
 
@@ -170,6 +174,10 @@ int say_circle(const struct names *names, const struct sheet *sheet, unsigned fr
         back = make_edge(at, way[count], PLUS);
         say_step(names, sheet, is_edge(sheet, back) ? back : make_edge(at, way[count], MINUS));
     }
-    printf("Only triggers without a delay take part. There may be other loops.\n");
+    printf("Only triggers without a delay take part; their priorities and conditions do not count."
+           " So take one of these steps away: do without the triggers that this step names, or"
+           " give them a delay. What comes after a delay comes too late for the minute itself, so"
+           " look at the picture then. How two roles are kept apart without a loop is in README.md."
+           " There may be other loops.\n");
     return 1;
 }

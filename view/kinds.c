@@ -73,9 +73,9 @@ void say_size_by_kind(const struct line *line)
     say_kind(kind);
     if (has_counts(line)) {
         printf(" that counts ");
-        say_count(byte_in(line, 1), "event");
+        say_count(stdout, byte_in(line, 1), "event");
         printf(" and ");
-        say_count(byte_in(line, 2), "condition");
+        say_count(stdout, byte_in(line, 2), "condition");
     }
     printf(kind == TRIGGER && !has_counts(line) ? " has at least" : " has");
     printf(" %lu digits", (unsigned long)size_by_kind(line));

@@ -1,45 +1,114 @@
-/* Names for roles: the option --roles, whose parts ROLE=NAME have commas between them. */
+/*
+ * Names for roles. A sentence that says a role by its name must still be read in one way only, so
+ * no name holds a mark or a word with which a sentence goes on after a role.
+ */
 #include "names.h"
 
 #include "characters.h"
 
-#include <stdio.h>
 #include <string.h>
 
-/* Takes a role of one or two digits; 0 when there is none. */
-static int take_role(const char **at, unsigned *role)
+/* Whether a character goes on with a word: a letter or a digit, and all that is no ASCII. */
+static int in_word(char character)
 {
-    size_t i, digits = strspn(*at, "0123456789");
+    unsigned char byte = (unsigned char)character;
 
-    *role = 0;
-    for (i = 0; i < digits && i < 2; i++) {
-        *role = 10 * *role + (unsigned)((*at)[i] - '0');
-    }
-    *at += digits;
-    return digits >= 1 && digits <= 2 && *role < ROLES_MOST;
+    return byte >= 0x80 || (byte >= '0' && byte <= '9') || (byte >= 'A' && byte <= 'Z')
+        || (byte >= 'a' && byte <= 'z');
 }
 
-/* Takes a name up to the next comma or the end; what is wrong with it, or nothing. */
-static const char *take_name(const char **at, char *name)
+/* Whether a name has a word. */
+static int has_word(const char *name, const char *word)
 {
-    size_t length, characters = 0, blanks = 0, used = 0;
+    size_t length = strlen(word);
+    const char *at = name;
+
+    while ((at = strstr(at, word)) != NULL) {
+        if ((at == name || !in_word(at[-1])) && !in_word(at[length])) {
+            return 1;
+        }
+        at += length;
+    }
+    return 0;
+}
+
+/* Whether a name has a word that belongs to sentences. */
+static int has_sentence_word(const char *name)
+{
+    static const char *const words[] = {"enable", "disable", "enabled", "disabled", "priority"};
+    size_t i;
+
+    for (i = 0; i < sizeof words / sizeof words[0]; i++) {
+        if (has_word(name, words[i])) {
+            return 1;
+        }
+    }
+    return 0;
+}
+
+/* Whether a name would be read as a role's number: '3', or 'role 3'. */
+static int is_number(const char *name)
+{
+    if (strncmp(name, "role ", 5) == 0) {
+        name += 5;
+    }
+    return name[strspn(name, "0123456789")] == 0;
+}
+
+/* Whether a character may not stand in a name. */
+static int is_barred(uint32_t number)
+{
+    return !printable(number) || (number < 0x80 && strchr(",=:;#", (int)number) != NULL);
+}
+
+/*
+ * Takes characters as a name. Blanks at its ends go, and several within it count as one, those too
+ * at which no line is broken: they look the same.
+ */
+static const char *take_characters(const char *text, size_t length, char *name)
+{
+    size_t at, taken, characters = 0, used = 0, blanks = 0;
     uint32_t number;
 
-    for (; **at != 0 && **at != ','; *at += length) {
-        length = character_at(*at, &number);
-        if (length == 0 || !printable(number) || number == '=') {
-            return "a name has printable characters, and neither a comma nor '='";
+    for (at = 0; at < length; at += taken) {
+        taken = character_at(text + at, &number);
+        if (taken == 0 || is_barred(number)) {
+            return "a name has printable characters, and none of , = : ; #";
         }
-        if (characters == NAME_CHARACTERS) {
+        if (number == ' ' || number == 0xA0) {
+            blanks = used > 0;
+            continue;
+        }
+        characters += blanks + 1;
+        if (characters > NAME_CHARACTERS) {
             return "a name has at most 40 characters";
         }
-        memcpy(name + used, *at, length);
-        used += length;
-        characters++;
-        blanks += number == ' ' || number == 0xA0;
+        memcpy(name + used, " ", blanks);
+        memcpy(name + used + blanks, text + at, taken);
+        used += blanks + taken;
+        blanks = 0;
     }
     name[used] = 0;
-    return blanks < characters ? NULL : "the name is empty";
+    return NULL;
+}
+
+/* Takes a name of so many bytes, which a 0 byte may end no sooner. */
+const char *clean_name(const char *text, size_t length, char *name)
+{
+    const char *why = take_characters(text, length, name);
+
+    if (why != NULL) {
+        return why;
+    }
+    if (name[0] == 0) {
+        return "the name is empty";
+    }
+    if (is_number(name)) {
+        return "a name is no number";
+    }
+    return has_sentence_word(name)
+        ? "a name does not have the words enable, disable, enabled, disabled or priority"
+        : NULL;
 }
 
 /* What a role is called; NULL when it has no name. */
@@ -55,60 +124,33 @@ const char *name_of_role(const struct names *names, unsigned role)
     return NULL;
 }
 
-/* Takes one part ROLE=NAME; what is wrong with it, or nothing. */
-static const char *take_part(struct names *names, const char **at)
+/* The role of a name; 0 when no role has it. */
+int role_of_name(const struct names *names, const char *name, unsigned *role)
 {
-    struct name taken;
-    const char *why;
+    size_t i;
 
-    if (!take_role(at, &taken.role) || **at != '=') {
-        return "it takes a role from 0 to 63, '=' and a name, as in 3=Adjust";
+    for (i = 0; i < names->count; i++) {
+        if (strcmp(names->list[i].text, name) == 0) {
+            *role = names->list[i].role;
+            return 1;
+        }
     }
-    *at += 1;
-    why = take_name(at, taken.text);
-    if (why == NULL && name_of_role(names, taken.role) != NULL) {
-        why = "the role has a name already";
-    }
-    if (why == NULL) {
-        names->list[names->count++] = taken;
-    }
-    return why;
+    return 0;
 }
 
-/* Takes the list; 0 for a good one, else the number of its wrong part and what is wrong with it. */
-static unsigned take_list(struct names *names, const char *list, const char **why)
+/* Gives a name to a role below ROLES_MOST. */
+const char *add_name(struct names *names, unsigned role, const char *name)
 {
-    unsigned part = 1;
+    unsigned other;
 
-    *why = take_part(names, &list);
-    while (*why == NULL && *list == ',') {
-        list++;
-        part++;
-        *why = take_part(names, &list);
+    if (name_of_role(names, role) != NULL) {
+        return "the role has a name already";
     }
-    return *why == NULL ? 0 : part;
-}
-
-/*
- * Takes what the call of a view begins with, [--try] [--roles LIST], and gives back where its
- * further words begin; 0 where the list is wrong, and one line says so.
- */
-int take_call(struct call *call, const char *verb, int count, char **words)
-{
-    const char *why;
-    unsigned part;
-    int at = 1;
-
-    call->names.count = 0;
-    call->try = at < count && strcmp(words[at], "--try") == 0;
-    at += call->try;
-    if (at + 1 >= count || strcmp(words[at], "--roles") != 0) {
-        return at;
+    if (role_of_name(names, name, &other)) {
+        return "another role has this name already";
     }
-    part = take_list(&call->names, words[at + 1], &why);
-    if (part != 0) {
-        fprintf(stderr, "box: %s: --roles, part %u: %s\n", verb, part, why);
-        return 0;
-    }
-    return at + 2;
+    names->list[names->count].role = role;
+    strcpy(names->list[names->count].text, name);
+    names->count++;
+    return NULL;
 }

@@ -16,7 +16,7 @@ struct name {
     char text[NAME_BYTES];
 };
 
-/* The names in the order in which they were given; each role has one at most. */
+/* The names in the order in which they were given; each role has one at most, and no two the same. */
 struct names {
     size_t count;
     struct name list[ROLES_MOST];
@@ -28,8 +28,14 @@ struct call {
     struct names names;
 };
 
-/* names.c */
+/* names.c: what is wrong comes back as words, or as NULL where nothing is */
+const char *clean_name(const char *text, size_t length, char *name);
+const char *add_name(struct names *names, unsigned role, const char *name);
 const char *name_of_role(const struct names *names, unsigned role);
+int role_of_name(const struct names *names, const char *name, unsigned *role);
+
+/* roles.c: the option --roles */
 int take_call(struct call *call, const char *verb, int count, char **words);
+int names_fit(const struct names *names, const char *verb, unsigned role_count);
 
 #endif

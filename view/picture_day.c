@@ -64,8 +64,12 @@ static void add_lane(struct board *board, unsigned role, const char *name)
     board->mask |= UINT64_C(1) << role;
 }
 
-/* The lines that are drawn: one for each name, or else one for each role that is ever open. */
-void choose_lanes(struct board *board, const struct day *day, const struct names *names)
+/*
+ * The lines that are drawn: one for each name, or else one for each role that is ever open. Where
+ * no role is said to be apart, all that have names are.
+ */
+void choose_lanes(struct board *board, const struct day *day, const struct names *names,
+                  uint64_t apart)
 {
     size_t i;
     unsigned role;
@@ -86,6 +90,18 @@ void choose_lanes(struct board *board, const struct day *day, const struct names
             add_lane(board, role, "");
         }
     }
+    board->apart = apart != 0 ? apart : board->named ? board->mask : 0;
+}
+
+/* How many roles a set has. */
+size_t roles_in(uint64_t set)
+{
+    size_t count = 0;
+
+    for (; set != 0; set &= set - 1) {
+        count++;
+    }
+    return count;
 }
 
 /* The roles that were open before the minute; before minute 0 there are none. */
@@ -100,15 +116,15 @@ int changes(const struct board *board, size_t minute)
     return ((roles_before(board, minute) ^ board->day->open[minute]) & board->mask) != 0;
 }
 
-/* The named roles that are open in the minute where these are two or more; else none. */
+/* The roles that must be apart and are open in the minute, if two or more are; else none. */
 uint64_t both_open(const struct board *board, size_t minute)
 {
-    uint64_t open = board->day->open[minute] & board->mask;
+    uint64_t open = board->day->open[minute] & board->apart;
 
-    return board->named && (open & (open - 1)) != 0 ? open : 0;
+    return (open & (open - 1)) != 0 ? open : 0;
 }
 
-/* The minute, at most "to", up to which two named roles are open, or are not, as in this one. */
+/* The minute, at most "to", up to which roles clash, or do not, as in this one. */
 size_t both_until(const struct board *board, size_t minute, size_t to)
 {
     int both = both_open(board, minute) != 0;

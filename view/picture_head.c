@@ -1,23 +1,13 @@
-/* The title, the legend, the words on minutes in which two roles are open, and the foot. */
+/* The title and the legend; between them stand the words on roles that are open together. */
 #include "picture.h"
 
 #include <stdio.h>
-#include <string.h>
 
 enum {
     TITLE = 520,
     SMALL = 260,
-    WORDS = 360,
-    SAMPLE = 900,
-    BESIDE = SAMPLE + 150, /* where what is said of a sample begins */
-    RIGHT = PAGE_WIDE - MARGIN,
     LINE_SMALL = 430,
-    LINE_WORDS = 560,
-    WORDS_LINES = 3,
-    WORDS_WIDE = RIGHT - MARGIN - BESIDE,
-    MORE_WIDE = 9600,
-    TEXT_BYTES = 80,
-    LINE_BYTES = 800
+    TEXT_BYTES = 80
 };
 
 /* Words that follow one another in lines. Dry ones are only measured. */
@@ -115,14 +105,6 @@ static void paint_number(long x, long y)
     printf("<path stroke=\"#777\" stroke-width=\"15\" d=\"M%ld %ldv130\"/>\n", x, y - 80);
 }
 
-/* Paints the hatching of a clash. */
-static void paint_hatch(long x, long y)
-{
-    printf("<path fill=\"url(#both)\" stroke=\"#000\" stroke-width=\"20\""
-           " d=\"M%ld %ldh%dv280h-%dz\"/>\n",
-           x, y - 240, SAMPLE, SAMPLE);
-}
-
 /* Paints the bracket over what is drawn large. */
 static void paint_bracket(long x, long y)
 {
@@ -147,122 +129,12 @@ static void put_signs(struct flow *flow, const struct plan *plan)
 {
     put_sign(flow, "up: open, down: closed", paint_step);
     put_sign(flow, "minute at which a line changes", paint_number);
+    if (plan->brief) {
+        put_sign(flow, "open together, too short to be hatched", write_short_sample);
+    }
     if (plan->count > plan->days) {
         put_sign(flow, "drawn again, larger, as the close-up of that number", paint_bracket);
     }
-}
-
-/* How wide bold words are at most. */
-static long words_wide(const char *text)
-{
-    return text_wide(text, WORDS) * 112 / 100;
-}
-
-/* Writes the words that fill a line, and empties it. */
-static void end_words(struct flow *flow, char *line)
-{
-    if (flow->wet) {
-        write_text(MARGIN + BESIDE, flow->y, WORDS, BOLD, line);
-    }
-    line[0] = 0;
-}
-
-/* Puts a piece of the words on clashes: it goes to the next line where this one has no room. */
-static void put_words(struct flow *flow, char *line, const char *text)
-{
-    if (line[0] != 0 && words_wide(line) + words_wide(text) + WORDS > WORDS_WIDE) {
-        end_words(flow, line);
-        new_line(flow, LINE_WORDS);
-    }
-    if (line[0] != 0) {
-        strcat(line, " ");
-    }
-    strcat(line, text);
-}
-
-/* In how many minutes two named roles are open, and how many stretches these form. */
-static void count_both(const struct board *board, unsigned long *minutes, unsigned long *stretches)
-{
-    size_t at, end;
-
-    *minutes = 0;
-    *stretches = 0;
-    for (at = 0; at < board->day->count; at = end) {
-        end = both_until(board, at, board->day->count);
-        if (both_open(board, at) != 0) {
-            *minutes += end - at;
-            *stretches += 1;
-        }
-    }
-}
-
-/* A stretch in numbers. */
-static void stretch_text(char *text, size_t size, size_t from, size_t to, char end)
-{
-    if (to - from == 1) {
-        snprintf(text, size, "%lu%c", (unsigned long)from, end);
-    } else {
-        snprintf(text, size, "%lu to %lu%c", (unsigned long)from, (unsigned long)to - 1, end);
-    }
-}
-
-/* Puts the stretches in which two named roles are open, as many as three lines hold. */
-static void put_stretches(struct flow *flow, char *line, const struct board *board,
-                          unsigned long left)
-{
-    long last = flow->y + (WORDS_LINES - 1) * LINE_WORDS;
-    size_t at, end;
-    char text[TEXT_BYTES];
-
-    for (at = 0; left > 0; at = end) {
-        end = both_until(board, at, board->day->count);
-        if (both_open(board, at) == 0) {
-            continue;
-        }
-        stretch_text(text, sizeof text, at, end, left == 1 ? '.' : ',');
-        if (flow->y == last && words_wide(line) + words_wide(text) + MORE_WIDE > WORDS_WIDE) {
-            snprintf(text, sizeof text, "and %lu more: see the hatching.", left);
-            left = 1;
-        }
-        put_words(flow, line, text);
-        left--;
-    }
-}
-
-/* Puts the minutes in which two named roles are open, with the hatching before them. */
-static void put_clashes(struct flow *flow, const struct board *board, unsigned long minutes,
-                        unsigned long stretches)
-{
-    char line[LINE_BYTES] = "", text[TEXT_BYTES];
-
-    if (flow->wet) {
-        paint_hatch(MARGIN, flow->y);
-    }
-    snprintf(text, sizeof text, "%s are open in %lu minute%s:",
-             board->count == 2 ? "Both" : "Two or more", minutes, minutes == 1 ? "" : "s");
-    put_words(flow, line, text);
-    put_stretches(flow, line, board, stretches);
-    end_words(flow, line);
-}
-
-/* Puts what is to be said of minutes in which two named roles are open, or that there are none. */
-static void put_both(struct flow *flow, const struct board *board)
-{
-    unsigned long minutes, stretches;
-
-    if (!board->named || board->count < 2) {
-        return;
-    }
-    new_line(flow, LINE_WORDS);
-    count_both(board, &minutes, &stretches);
-    if (minutes > 0) {
-        put_clashes(flow, board, minutes, stretches);
-    } else if (flow->wet) {
-        write_text(MARGIN, flow->y, WORDS, BOLD,
-                   board->count == 2 ? "In these minutes the two are never open together."
-                                     : "In these minutes no two of them are open together.");
-    }
-    flow->y += 60;
 }
 
 /* The title, with the names where there are two and the line has room for them. */
@@ -276,7 +148,7 @@ static void title_text(char *text, size_t size, const struct board *board)
     if (board->named && board->count == 2) {
         snprintf(text, size, "When %s and %s are %s", board->lane[0].name, board->lane[1].name,
                  minutes);
-        if (text_wide(text, TITLE) * 112 / 100 <= RIGHT - MARGIN) {
+        if (bold_wide(text, TITLE) <= RIGHT - MARGIN) {
             return;
         }
     }
@@ -295,24 +167,9 @@ long write_head(const struct board *board, const struct plan *plan, int wet)
     if (wet) {
         write_text(MARGIN, flow.y, TITLE, BOLD, text);
     }
-    flow.y += 60;
-    put_both(&flow, board);
+    flow.y = write_words(board, flow.y + 60, wet);
     new_line(&flow, LINE_SMALL);
     put_names(&flow, board);
     put_signs(&flow, plan);
     return flow.y + SMALL - MARGIN;
-}
-
-/* Writes the foot of a page. */
-void write_foot(const struct plan *plan, size_t page)
-{
-    long y = (long)(page + 1) * PAGE_HIGH - 450;
-    char text[TEXT_BYTES];
-
-    write_text(MARGIN, y, 210, PALE, "Drawn from what the day program printed.");
-    if (plan->pages > 1) {
-        snprintf(text, sizeof text, "page %lu of %lu", (unsigned long)page + 1,
-                 (unsigned long)plan->pages);
-        write_text(RIGHT, y, 210, AT_END PALE, text);
-    }
 }

@@ -1,4 +1,4 @@
-/* The stepped lines, and the hatching where two named ones are up together. */
+/* The stepped lines. */
 #include "picture.h"
 
 #include <stdio.h>
@@ -190,57 +190,4 @@ void write_sample(size_t which, long x, long y, long wide)
     printf("<path fill=\"none\" stroke=\"#000\" stroke-width=\"45\"");
     write_dashes(which, 45);
     printf(" d=\"M%ld %ldh%ld\"/>\n", x, y, wide);
-}
-
-/* Writes the boxes of a lane in which its role is open together with another. */
-static void write_boxes(const struct line *line, long top, long high)
-{
-    size_t at, end, to = line->panel->to;
-    long wide;
-
-    for (at = line->panel->from; at < to; at = end) {
-        for (end = at; end < to && both_open(line->board, end) >> line->role & 1; end++) {
-        }
-        if (end > at) {
-            wide = length(line, at, end);
-            printf("M%ld %ldh%ldv%ldh%ldz", across(line->panel, at), top, wide, high, -wide);
-        } else {
-            end++;
-        }
-    }
-}
-
-/* Writes a black bar along the axis for each stretch in which two named roles are open. */
-static void write_bars(const struct board *board, const struct panel *panel, long axis, long thick)
-{
-    size_t at, end;
-
-    printf("<path fill=\"none\" stroke=\"#000\" stroke-width=\"%ld\" d=\"", thick);
-    for (at = panel->from; at < panel->to; at = end) {
-        end = both_until(board, at, panel->to);
-        if (both_open(board, at) != 0) {
-            printf("M%ld %ldH%ld", across(panel, at), axis - thick / 2, across(panel, end));
-        }
-    }
-    printf("\"/>\n");
-}
-
-/* Hatches the lanes where two named roles are open together. */
-void write_both(const struct board *board, const struct plan *plan, const struct panel *panel,
-                long top, long axis)
-{
-    struct line line;
-    size_t i;
-
-    if (both_open(board, panel->from) == 0
-        && both_until(board, panel->from, panel->to) == panel->to) {
-        return;
-    }
-    printf("<path fill=\"url(#both)\" d=\"");
-    for (i = 0; i < board->count; i++) {
-        line = line_of(board, plan, panel, i, top + (long)i * plan->lane);
-        write_boxes(&line, top + (long)i * plan->lane, plan->lane);
-    }
-    printf("\"/>\n");
-    write_bars(board, panel, axis, plan->text / 4);
 }

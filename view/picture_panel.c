@@ -1,15 +1,9 @@
 /* One panel: the lines, the numbers above them, the axis below, and the names before. */
-#include "characters.h"
 #include "picture.h"
 
 #include <stdio.h>
-#include <string.h>
 
-enum {
-    STEPS = 10,
-    NAME_WIDE = LEFT - MARGIN - 200,
-    NAME_LEAST = 210
-};
+enum { STEPS = 10 };
 
 /* The distances of minutes that ticks and their numbers may have. */
 static const size_t steps[STEPS] = {1, 2, 5, 10, 20, 30, 60, 120, 240, 1440};
@@ -18,6 +12,7 @@ static const size_t steps[STEPS] = {1, 2, 5, 10, 20, 30, 60, 120, 240, 1440};
 struct parts {
     long numbers;
     long brackets;
+    long points;
     long lanes;
     long axis;
 };
@@ -30,7 +25,8 @@ static struct parts parts_of(const struct board *board, const struct plan *plan,
 
     parts.numbers = panel->top;
     parts.brackets = parts.numbers + panel->strip;
-    parts.lanes = parts.brackets + bracket_high(plan, panel);
+    parts.points = parts.brackets + bracket_high(plan, panel);
+    parts.lanes = parts.points + panel->points;
     parts.axis = parts.lanes + (long)(board->count == 0 ? 1 : board->count) * plan->lane
                  + plan->text * 3 / 10;
     return parts;
@@ -87,13 +83,6 @@ static void write_ticks(const struct board *board, const struct plan *plan,
         printf("M%ld %ldv%ld", across(panel, at), parts->axis, tick * plan->text / 100);
     }
     printf("\"/>\n");
-}
-
-/* Hours and minutes of the day. */
-static void clock_text(char *text, size_t size, size_t minute)
-{
-    snprintf(text, size, "%lu:%02lu", (unsigned long)(minute % DAY_MINUTES / 60),
-             (unsigned long)(minute % 60));
 }
 
 /* Writes the numbers of the axis: minutes, and below them hours and minutes on a long day. */
@@ -167,7 +156,7 @@ static void write_bracket(const struct plan *plan, const struct panel *panel,
                           const struct panel *close, const struct parts *parts)
 {
     long from = across(panel, close->from) + 20, to = across(panel, close->to) - 20, wide;
-    long y = parts->brackets + plan->text * 7 / 10, foot = parts->lanes - plan->text / 10;
+    long y = parts->brackets + plan->text * 7 / 10, foot = parts->points - plan->text / 10;
     char text[32];
 
     snprintf(text, sizeof text, "%lu", (unsigned long)close->number);
@@ -190,67 +179,6 @@ static void write_brackets(const struct plan *plan, const struct panel *panel,
             write_bracket(plan, panel, &plan->panel[i], parts);
         }
     }
-}
-
-/* Shortens a text so that it fits, with three dots at its end. */
-static void shorten(char *text, long size, long wide)
-{
-    size_t end = 0, length;
-    uint32_t number;
-    char kept;
-
-    if (text_wide(text, size) <= wide) {
-        return;
-    }
-    for (;;) {
-        length = character_at(text + end, &number);
-        kept = text[end + length];
-        text[end + length] = 0;
-        if (text_wide(text, size) + size > wide) {
-            break;
-        }
-        text[end + length] = kept;
-        end += length;
-    }
-    snprintf(text + end, 4, "\xE2\x80\xA6");
-}
-
-/* The number of a lane's role, which stands after its name or alone. */
-static void number_text(char *text, size_t size, const struct board *board, size_t which)
-{
-    snprintf(text, size, board->named ? " (%u)" : "role %u", board->lane[which].role);
-}
-
-/* The height of the names' letters: all fit, or they are the least. */
-static long name_high(const struct board *board, const struct plan *plan)
-{
-    long size = plan->text * 12 / 10;
-    char number[32];
-    size_t i;
-
-    size = size > plan->lane * 9 / 10 ? plan->lane * 9 / 10 : size;
-    for (i = 0; i < board->count; i++) {
-        number_text(number, sizeof number, board, i);
-        while (size > NAME_LEAST
-               && text_wide(board->lane[i].name, size) + text_wide(number, size) > NAME_WIDE) {
-            size -= 10;
-        }
-    }
-    return size;
-}
-
-/* Writes the name of a lane before it. One that is too long is cut; the legend has it all. */
-static void write_name(const struct board *board, const struct plan *plan, size_t which, long top)
-{
-    char text[NAME_BYTES + 32], number[32];
-    long size = name_high(board, plan);
-
-    number_text(number, sizeof number, board, which);
-    snprintf(text, NAME_BYTES, "%s", board->lane[which].name);
-    shorten(text, size, NAME_WIDE - text_wide(number, size));
-    strcat(text, number);
-    write_text(LEFT - 200, top + plan->lane * 55 / 100 + size * 36 / 100, size,
-               AT_END, text);
 }
 
 /* Writes which minutes the panel has, before its numbers. */
@@ -288,8 +216,8 @@ void write_panel(const struct board *board, const struct plan *plan, const struc
     write_brackets(plan, panel, &parts);
     for (i = 0; i < board->count; i++) {
         write_line(board, plan, panel, i, parts.lanes + (long)i * plan->lane);
-        write_name(board, plan, i, parts.lanes + (long)i * plan->lane);
     }
+    write_lane_names(board, plan, parts.lanes);
     if (board->count == 0) {
         write_text(LEFT + 200, parts.lanes + plan->lane * 6 / 10, plan->text * 12 / 10, "",
                    "No role is open in any minute.");

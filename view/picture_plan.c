@@ -61,6 +61,7 @@ static void add_panel(struct plan *plan, size_t from, size_t to, size_t span, si
     panel->wide = span < WIDE / COLUMN_MOST ? (long)span * COLUMN_MOST : WIDE;
     panel->number = number;
     panel->strip = 0;
+    panel->points = 0;
     panel->page = 0;
     panel->top = 0;
 }
@@ -162,7 +163,7 @@ static long strip_high(const struct board *board, const struct plan *plan,
     return needed > high ? needed : high;
 }
 
-/* Puts the panels one below another on as many pages as they take. */
+/* Puts the panels one below another, and then the table, on as many pages as they take. */
 static void flow(const struct board *board, struct plan *plan)
 {
     long y = MARGIN + write_head(board, plan, 0), high;
@@ -170,7 +171,7 @@ static void flow(const struct board *board, struct plan *plan)
 
     plan->pages = 1;
     for (i = 0; i < plan->count; i++) {
-        high = plan->panel[i].strip + bracket_high(plan, &plan->panel[i])
+        high = plan->panel[i].strip + bracket_high(plan, &plan->panel[i]) + plan->panel[i].points
                + (long)lanes * plan->lane + axis_high(board, plan) + plan->text * 7 / 10;
         if (y + high > PAGE_HIGH - MARGIN) {
             plan->pages++;
@@ -184,6 +185,7 @@ static void flow(const struct board *board, struct plan *plan)
             return;
         }
     }
+    place_table(board, plan, y);
 }
 
 /* The plan for letters and lanes of a given height, with or without clocks above the lines. */
@@ -203,7 +205,9 @@ static void plan_for(const struct board *board, struct plan *plan, long text, lo
     }
     for (i = 0; i < plan->count; i++) {
         plan->panel[i].strip = strip_high(board, plan, &plan->panel[i]);
+        plan->panel[i].points = points_high(board, plan, &plan->panel[i]);
     }
+    plan->brief = any_short(board, plan);
     flow(board, plan);
 }
 

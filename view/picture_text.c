@@ -35,6 +35,12 @@ long text_wide(const char *text, long size)
     return wide * size / 100;
 }
 
+/* How wide a text is at most in bold letters. */
+long bold_wide(const char *text, long size)
+{
+    return text_wide(text, size) * 112 / 100;
+}
+
 /* Writes a character so that it stands for itself. */
 static void write_character(char character)
 {
@@ -61,4 +67,21 @@ void write_text(long x, long y, long size, const char *how, const char *text)
         write_character(*text);
     }
     printf("</text>\n");
+}
+
+/* Hours and minutes of the day. */
+void clock_text(char *text, size_t size, size_t minute)
+{
+    snprintf(text, size, "%lu:%02lu", (unsigned long)(minute % DAY_MINUTES / 60),
+             (unsigned long)(minute % 60));
+}
+
+/* Some minutes on end, as '595 to 614', or one; "to" is the minute after the last. */
+void stretch_text(char *text, size_t size, size_t from, size_t to)
+{
+    if (to - from == 1) {
+        snprintf(text, size, "%lu", (unsigned long)from);
+    } else {
+        snprintf(text, size, "%lu to %lu", (unsigned long)from, (unsigned long)to - 1);
+    }
 }

@@ -53,8 +53,30 @@ static struct mark say_fault(const struct sheet *sheet, const struct refusal *re
     }
 }
 
+/* The refused line in words, where it has any, so that its sentence can be found; not a header. */
+static void say_words(const struct names *names, struct sheet *sheet, const struct line *line)
+{
+    FILE *room = tmpfile();
+    struct frame frame;
+    int byte;
+
+    if (room != NULL && frame_of(line, &frame) && frame.bytes[0] != HEADER
+        && say_frame(room, names, sheet, &frame)) {
+        printf("In words");
+        rewind(room);
+        while ((byte = getc(room)) != EOF) {
+            putchar(byte);
+        }
+        putchar('\n');
+    }
+    if (room != NULL) {
+        fclose(room);
+    }
+}
+
 /* A refusal whose place is a line. */
-static void say_at_line(const struct sheet *sheet, const struct refusal *refusal)
+static void say_at_line(const struct names *names, struct sheet *sheet,
+                        const struct refusal *refusal)
 {
     struct mark mark;
 
@@ -64,6 +86,9 @@ static void say_at_line(const struct sheet *sheet, const struct refusal *refusal
     printf("\n");
     if (!refusal->at_end) {
         show_marked(&refusal->line, mark);
+    }
+    if (refusal->number == FIELD || refusal->number == REQUEST) {
+        say_words(names, sheet, &refusal->line);
     }
     if (refusal->on_tape) {
         printf("The sheet itself passed, the loop test too.\n");
@@ -76,9 +101,9 @@ static void say_loop(const struct names *names, const struct sheet *sheet, uint3
     unsigned from = place / EVENTS, to = place % EVENTS;
 
     printf("refused: %u %s at place %lu: from ", LOOP, name_of(LOOP), (unsigned long)place);
-    say_event(names, from);
+    say_event(stdout, names, from);
     printf(" to ");
-    say_event(names, to);
+    say_event(stdout, names, to);
     printf("\n");
     if (!say_circle(names, sheet, from, to)) {
         printf("The circle could not be shown.\n");
@@ -103,14 +128,13 @@ static void say_length(struct text text)
 }
 
 /* A refusal of any number. */
-void say_refusal(const struct names *names, const struct sheet *sheet,
-                 const struct refusal *refusal)
+void say_refusal(const struct names *names, struct sheet *sheet, const struct refusal *refusal)
 {
     if (refusal->number == LENGTH) {
         say_length(refusal->input);
     } else if (refusal->number == LOOP) {
         say_loop(names, sheet, refusal->place);
     } else {
-        say_at_line(sheet, refusal);
+        say_at_line(names, sheet, refusal);
     }
 }

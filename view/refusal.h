@@ -36,8 +36,7 @@ struct mark {
 };
 
 /* refusal.c */
-void say_refusal(const struct names *names, const struct sheet *sheet,
-                 const struct refusal *refusal);
+void say_refusal(const struct names *names, struct sheet *sheet, const struct refusal *refusal);
 
 /* refusal_mark.c */
 struct mark mark_of(size_t column, size_t width);

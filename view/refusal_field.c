@@ -62,7 +62,7 @@ static void say_role_limit(const struct sheet *sheet, uint32_t number, enum limi
     printf("must be below ");
     say_number(2 * sheet->role_count, 1);
     printf(": the header counts ");
-    say_roles(sheet->role_count);
+    say_roles(stdout, sheet->role_count);
 }
 
 /* The minute of the request above, and where it stands. */

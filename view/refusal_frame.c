@@ -29,7 +29,7 @@ static void say_odd(const struct line *line)
     size_t size = size_by_kind(line);
 
     printf("the line has ");
-    say_count((unsigned)line->length, "digit");
+    say_count(stdout, (unsigned)line->length, "digit");
     printf(", where the number must be even%s", line->ended ? "" : ", and no line end (0A)");
     if (size != 0 && size <= 2 * FRAME_MOST) {
         printf("; ");

@@ -53,7 +53,7 @@ static void say_counted(unsigned counted, unsigned there, const char *thing)
 {
     if (counted != there) {
         printf("the end counts ");
-        say_count(counted, thing);
+        say_count(stdout, counted, thing);
         printf(", and the sheet has %u; ", there);
     }
 }

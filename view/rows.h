@@ -41,10 +41,11 @@ struct end {
     unsigned periodic_count, trigger_count;
 };
 
-/* What was said of a sheet so far. */
+/* What was said of a sheet so far, with the line of each trigger. */
 struct sheet {
     unsigned role_count, periodic_count, trigger_count;
     struct trigger triggers[TRIGGERS_MOST];
+    unsigned long trigger_line[TRIGGERS_MOST];
 };
 
 /* rows.c: each gives 0 for a frame that it cannot read. */

@@ -1,4 +1,4 @@
-/* Frames and their parts in words, on standard output. */
+/* Frames and their parts in words. */
 #ifndef VIEW_SAY_H
 #define VIEW_SAY_H
 
@@ -6,9 +6,10 @@
 #include "rows.h"
 
 /* say.c */
-void say_count(unsigned count, const char *thing);
-void say_roles(unsigned count);
-void say_event(const struct names *names, unsigned event);
-int say_frame(const struct names *names, struct sheet *sheet, const struct frame *frame);
+void say_count(FILE *out, unsigned count, const char *thing);
+void say_roles(FILE *out, unsigned count);
+void say_event(FILE *out, const struct names *names, unsigned event);
+int say_frame(FILE *out, const struct names *names, struct sheet *sheet,
+              const struct frame *frame);
 
 #endif

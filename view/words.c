@@ -61,13 +61,17 @@ static int read_input(const char *name, uint8_t *bytes, size_t *length)
 static void say_line(const struct names *names, struct sheet *sheet, const struct line *line,
                      unsigned long number)
 {
+    unsigned trigger = sheet->trigger_count;
     struct frame frame;
 
     printf("line %lu", number);
-    if (!frame_of(line, &frame) || !say_frame(names, sheet, &frame)) {
+    if (!frame_of(line, &frame) || !say_frame(stdout, names, sheet, &frame)) {
         show_line(stdout, line);
     }
     printf("\n");
+    if (sheet->trigger_count > trigger) {
+        sheet->trigger_line[trigger] = number;
+    }
 }
 
 /*
@@ -112,9 +116,22 @@ static void say_input(const struct names *names, struct sheet *sheet, struct tex
     if (refusal->number != OK) {
         say_refusal(names, sheet, refusal);
     } else if (refusal->before == 0) {
-        printf("No tape follows the sheet, so there is no day to run yet. The shortest tape is the"
-               " one line F1000000000F.\n");
+        printf("# No tape follows the sheet, so there is no day to run yet. The shortest tape is"
+               " 'the day ends after minute 0', the one line F1000000000F.\n");
     }
+}
+
+/* How many roles the sheet has, by its first line; 0 where that did not pass. */
+static unsigned roles_of(struct text text, const struct refusal *refusal)
+{
+    struct line line;
+    struct frame frame;
+
+    if (refusal->number == LENGTH || (refusal->number != OK && refusal->place == 1)
+        || !take_line(&text, &line) || !frame_of(&line, &frame) || frame.bytes[0] != HEADER) {
+        return 0;
+    }
+    return frame.bytes[2];
 }
 
 /* Reads the verdict and the input and says them. */
@@ -122,6 +139,7 @@ static int answer(const struct names *names, char **words, uint8_t *bytes, struc
 {
     struct refusal refusal;
     struct text text;
+    unsigned roles;
 
     text.bytes = bytes;
     if (!read_input(words[0], bytes, &text.length)) {
@@ -129,6 +147,10 @@ static int answer(const struct names *names, char **words, uint8_t *bytes, struc
     }
     if (!read_verdict(words[1], &refusal)) {
         return fail(2, "the verdict is neither a line of a day or a sheet nor a refusal");
+    }
+    roles = roles_of(text, &refusal);
+    if (roles != 0 && !names_fit(names, "words", roles)) {
+        return 2;
     }
     say_input(names, sheet, text, &refusal);
     if (fflush(stdout) != 0 || ferror(stdout)) {
@@ -156,7 +178,7 @@ static int answer_with_memory(const struct names *names, char **words)
 
 /*
  * The words of an input; with --try only the names are tested. The status is 0 when the words were
- * printed, of a refused input too, 1 when that failed, 2 on misuse.
+ * printed, of a refused input too, 1 when that failed, 2 on misuse or when a name does not fit.
  */
 int main(int count, char **words)
 {
