@@ -2,36 +2,10 @@
  * A file of frames with every check made right, and nothing else. Which lines changed is said on
  * standard error. Status: 0 done, 1 failed, 2 misuse.
  */
-#include "hex.h"
+#include "inputs.h"
 
 #include <stdlib.h>
 #include <string.h>
-
-/* All of standard input; NULL, with one line said, where it cannot be had. */
-static uint8_t *read_all(size_t *length)
-{
-    size_t room = 65536, got;
-    uint8_t *bytes = malloc(room), *more;
-
-    *length = 0;
-    while (bytes != NULL && (got = fread(bytes + *length, 1, room - *length, stdin)) > 0) {
-        *length += got;
-        if (*length == room) {
-            room *= 2;
-            more = realloc(bytes, room);
-            if (more == NULL) {
-                free(bytes);
-            }
-            bytes = more;
-        }
-    }
-    if (bytes == NULL || ferror(stdin)) {
-        fprintf(stderr, "box: checks: the input could not be read\n");
-        free(bytes);
-        return NULL;
-    }
-    return bytes;
-}
 
 /* Whether a line is made of two bytes or more, so that it has a check. */
 static int has_check(const struct line *line)
@@ -131,6 +105,7 @@ int main(int count, char **words)
     }
     bytes = read_all(&text.length);
     if (bytes == NULL) {
+        fprintf(stderr, "box: checks: the input could not be read\n");
         return 1;
     }
     text.bytes = bytes;

@@ -3,6 +3,7 @@
  * none of them. Before it prints them it says them back, and compares that with what was given.
  * With --names it prints the names that the sentences give to roles, as --roles takes them.
  */
+#include "inputs.h"
 #include "sentences.h"
 
 #include <stdlib.h>
@@ -15,37 +16,7 @@ static int fail(int status, const char *why)
     return status;
 }
 
-/* Reads all of standard input and puts a 0 byte behind it; NULL when it cannot be read. */
-static uint8_t *read_input(size_t *length)
-{
-    size_t room = 1 << 16, taken;
-    uint8_t *bytes = malloc(room), *more;
-
-    *length = 0;
-    while (bytes != NULL) {
-        taken = fread(bytes + *length, 1, room - 1 - *length, stdin);
-        *length += taken;
-        if (taken == 0) {
-            break;
-        }
-        if (*length == room - 1) {
-            room *= 2;
-            more = realloc(bytes, room);
-            if (more == NULL) {
-                free(bytes);
-            }
-            bytes = more;
-        }
-    }
-    if (bytes == NULL || ferror(stdin)) {
-        free(bytes);
-        return NULL;
-    }
-    bytes[*length] = 0;
-    return bytes;
-}
-
-/* How many bytes what counts as a blank has: a tab, a return before a line end, a no-break blank. */
+/* The bytes of what counts as a blank: a tab, a return before a line end, a no-break blank. */
 static size_t blank_at(const uint8_t *bytes, size_t left)
 {
     if (bytes[0] == '\t' || (bytes[0] == '\r' && (left == 1 || bytes[1] == '\n'))) {
@@ -148,7 +119,7 @@ int main(int count, char **words)
     if (count != 1 && !only_names) {
         return fail(2, "usage: frames [--names] < SENTENCES > FRAMES");
     }
-    bytes = read_input(&length);
+    bytes = read_all(&length);
     if (bytes == NULL) {
         return fail(1, "the input could not be read");
     }

@@ -16,7 +16,7 @@ struct name {
     char text[NAME_BYTES];
 };
 
-/* The names in the order in which they were given; each role has one at most, and no two the same. */
+/* The names in the order in which they were given; a role has one at most, no two the same. */
 struct names {
     size_t count;
     struct name list[ROLES_MOST];

@@ -1,37 +1,8 @@
 /* The input that the day was run from: how many lines and how many roles it has. */
-#include "hex.h"
+#include "inputs.h"
 #include "picture.h"
 
 #include <stdio.h>
-
-enum { KEPT_MOST = 65537 }; /* the day program reads no more */
-
-/* Reads the input, up to one byte more than may pass; 0 when it cannot be read. */
-static int read_input(const char *name, uint8_t *bytes, size_t *length)
-{
-    FILE *file = fopen(name, "rb");
-    int bad;
-
-    if (file == NULL) {
-        return 0;
-    }
-    *length = fread(bytes, 1, KEPT_MOST, file);
-    bad = ferror(file);
-    return fclose(file) == 0 && !bad;
-}
-
-/* How many roles the sheet has, by its first line; 0 where that is no header. */
-static unsigned roles_of(struct text text)
-{
-    struct line line;
-    struct frame frame;
-
-    if (!take_line(&text, &line) || !frame_of(&line, &frame) || frame.length != 4
-        || frame.bytes[0] != HEADER || frame.bytes[2] > ROLES_MOST) {
-        return 0;
-    }
-    return frame.bytes[2];
-}
 
 /* How many lines a text has. */
 static unsigned long lines_of(struct text text)

@@ -83,7 +83,7 @@ int take_call(struct call *call, const char *verb, int count, char **words)
     return at + 2;
 }
 
-/* Whether each named role is one of a sheet's; else one line says which roles it has, and 0 comes back. */
+/* Whether each named role is one of a sheet's; else one line says which roles it has. */
 int names_fit(const struct names *names, const char *verb, unsigned role_count)
 {
     size_t i;

@@ -181,7 +181,8 @@ static int say_periodic(FILE *out, const struct names *names, struct sheet *shee
 }
 
 /* A trigger, which the sheet keeps. */
-static int say_trigger(FILE *out, const struct names *names, struct sheet *sheet, const struct frame *frame)
+static int say_trigger(FILE *out, const struct names *names, struct sheet *sheet,
+                       const struct frame *frame)
 {
     struct trigger row;
     unsigned i;

@@ -4,12 +4,11 @@
  * alone, printed of this input is given with it, and here no more is asked of a frame than what it
  * says.
  */
+#include "inputs.h"
 #include "refusal.h"
 
 #include <stdlib.h>
 #include <string.h>
-
-enum { KEPT_MOST = 65537 }; /* the programs read no more */
 
 /* One clear line; the status comes back. */
 static int fail(int status, const char *why)
@@ -41,20 +40,6 @@ static int read_verdict(const char *text, struct refusal *refusal)
     refusal->place = number_at(&frame, 2, 4);
     refusal->column = number_at(&frame, 6, 4);
     return refusal->number >= LENGTH && refusal->number <= REQUEST;
-}
-
-/* Reads the input, up to one byte more than may pass; 0 when it cannot be read. */
-static int read_input(const char *name, uint8_t *bytes, size_t *length)
-{
-    FILE *file = fopen(name, "rb");
-    int bad;
-
-    if (file == NULL) {
-        return 0;
-    }
-    *length = fread(bytes, 1, KEPT_MOST, file);
-    bad = ferror(file);
-    return fclose(file) == 0 && !bad;
 }
 
 /* Says a line that passed. The line itself is shown where there are no words for it. */
@@ -121,17 +106,13 @@ static void say_input(const struct names *names, struct sheet *sheet, struct tex
     }
 }
 
-/* How many roles the sheet has, by its first line; 0 where that did not pass. */
-static unsigned roles_of(struct text text, const struct refusal *refusal)
+/* Whether each name is of a role of the sheet; not asked where its header did not pass. */
+static int names_hold(const struct names *names, struct text text, const struct refusal *refusal)
 {
-    struct line line;
-    struct frame frame;
+    int passed = refusal->number != LENGTH && (refusal->number == OK || refusal->place != 1);
+    unsigned roles = passed ? roles_of(text) : 0;
 
-    if (refusal->number == LENGTH || (refusal->number != OK && refusal->place == 1)
-        || !take_line(&text, &line) || !frame_of(&line, &frame) || frame.bytes[0] != HEADER) {
-        return 0;
-    }
-    return frame.bytes[2];
+    return roles == 0 || names_fit(names, "words", roles);
 }
 
 /* Reads the verdict and the input and says them. */
@@ -139,7 +120,6 @@ static int answer(const struct names *names, char **words, uint8_t *bytes, struc
 {
     struct refusal refusal;
     struct text text;
-    unsigned roles;
 
     text.bytes = bytes;
     if (!read_input(words[0], bytes, &text.length)) {
@@ -148,8 +128,7 @@ static int answer(const struct names *names, char **words, uint8_t *bytes, struc
     if (!read_verdict(words[1], &refusal)) {
         return fail(2, "the verdict is neither a line of a day or a sheet nor a refusal");
     }
-    roles = roles_of(text, &refusal);
-    if (roles != 0 && !names_fit(names, "words", roles)) {
+    if (!names_hold(names, text, &refusal)) {
         return 2;
     }
     say_input(names, sheet, text, &refusal);
