@@ -1,9 +1,11 @@
 // What comes back of every entry: a verdict, its refusal with its place and column, and both in document 01's numbers. Every refusal is made here.
+#![tactic(auto)]
+
 ghost use Rattle.std.specs.Prelude.{◌≡◌};
 ghost use Rattle.answers.specs.Answers.{number_of, answered, refusal, in_column, refuse, and_then};
 
 // The refusals of document 01, 'What comes back', by name.
-#[derive(Drop)]
+#[derive(Clone, Copy)]
 pub enum Name {
     Length,
     Frame,
@@ -18,7 +20,7 @@ pub enum Name {
 }
 
 // A refusal: which, at which place, and in which column of its line, from 1. The column is 0 where there is no line, and of a refusal that has none.
-#[derive(Drop)]
+#[derive(Clone, Copy)]
 pub struct Refusal {
     pub name: Name,
     pub place: u32,
@@ -26,14 +28,14 @@ pub struct Refusal {
 }
 
 // What a judge says: nothing against it, or the refusal.
-#[derive(Drop)]
+#[derive(Clone, Copy)]
 pub enum Verdict {
     Pass,
     Refused(Refusal),
 }
 
 // An answer in document 01's numbers.
-#[derive(Drop)]
+#[derive(Clone, Copy)]
 pub struct Answer {
     pub number: u8,
     pub place: u32,

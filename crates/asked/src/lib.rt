@@ -1,4 +1,6 @@
 // What requests add: those without a delay join the events, those with one join the row of their instant in the waiting buffer.
+#![tactic(auto)]
+
 ghost use Rattle.std.specs.Prelude.{◌≡◌};
 ghost use Rattle.tables.specs.Asked.{request_at};
 ghost use Rattle.masks.specs.Joins.{joins};

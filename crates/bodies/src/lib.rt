@@ -1,4 +1,6 @@
 // Whether the conditions of a trigger all hold in the roles, and whether each event of its body has a nonblocked member; of any row of any table.
+#![tactic(auto)]
+
 ghost use Rattle.std.specs.Prelude.{◌≡◌};
 ghost use Rattle.theory.specs.Events.{holds};
 ghost use Rattle.theory.specs.Instant.{allows, met};

@@ -1,5 +1,7 @@
 // What the programs of the comparison share: cases in the form of second/FORMAT.md are taken from standard input, and the line of a result
 // is put together and printed.
+#![tactic(auto)]
+
 ghost use Rattle.std.specs.Prelude.{◌≡◌, ◌-◌, ◌%◌};
 ghost use Rattle.cases.specs.Digits.{value_of, glyph_of, with_digit, number_of, as_form, fits_form};
 
@@ -7,7 +9,7 @@ use answers::Answer;
 use tables::{Counts, byte};
 
 // What becomes of a run: it goes on, it ends, or its case is not in the form.
-#[derive(Drop)]
+#[derive(Clone, Copy)]
 pub enum Run {
     GoesOn,
     Ends,

@@ -1,4 +1,6 @@
 // The conflicting event of an event: the same role and the other low bit.
+#![tactic(auto)]
+
 ghost use Rattle.std.specs.Prelude.{◌≡◌};
 ghost use Rattle.theory.specs.Events.{conf};
 

@@ -1,4 +1,6 @@
 // The day program: it reads an input and writes its day. No contract says what is read or written; what is to be believed stands in `day_print`.
+#![tactic(auto)]
+
 use answers::Verdict;
 
 // Prints the day of an input, by way of a buffer that is lent for it: what stands at its front, or the line of the refusal.

@@ -1,4 +1,6 @@
 // A day's input, tested before its first instant: LENGTH, sheet, tape. A refusal; or the tables, the counts, the tape's first byte, the last instant.
+#![tactic(auto)]
+
 ghost use Rattle.std.specs.Prelude.{◌≡◌, ◌≤◌, length};
 ghost use Rattle.day_input.specs.Opening.{INPUT_BYTES};
 ghost use Rattle.day_input.specs.Planned.{planned, by_reading, by_tape, Zeros, opened};
@@ -12,7 +14,7 @@ use tape::Taken;
 pub const INPUT_BYTES: usize = 65536;
 
 // What an input opens: the counts of its sheet, the byte at which its tape begins, and the last instant.
-#[derive(Drop)]
+#[derive(Clone, Copy)]
 pub struct Plan {
     pub counts: Counts,
     pub from: usize,
@@ -20,7 +22,7 @@ pub struct Plan {
 }
 
 // The answer to an input.
-#[derive(Drop)]
+#[derive(Clone, Copy)]
 pub enum Opened {
     Opens(Plan),
     Refused(Refusal),

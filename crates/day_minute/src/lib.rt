@@ -1,4 +1,6 @@
 // A minute of a day: the tape's requests of the instant, and a step with them. It prints nothing.
+#![tactic(auto)]
+
 ghost use Rattle.tables.specs.Lent.{rules, lent};
 ghost use Rattle.day_minute.specs.Minute.{MinuteOutcome};
 
@@ -6,7 +8,7 @@ use answers::Verdict;
 use tables::Counts;
 
 // What came of a minute: the step's answer, where the tape goes on, and the roles after it.
-#[derive(Drop)]
+#[derive(Clone, Copy)]
 pub struct Minute {
     pub verdict: Verdict,
     pub next: usize,

@@ -1,4 +1,6 @@
 // A whole day, of any bytes: its lines at the front of the lent buffer, and the rest stays; or a refusal, and all of the buffer stays.
+#![tactic(auto)]
+
 ghost use Rattle.std.specs.Prelude.{◌≡◌, suc, length};
 ghost use Rattle.tables.specs.Lent.{rules};
 ghost use Rattle.day_input.specs.Opening.{opening};
@@ -19,7 +21,7 @@ const LINE: usize = 31;
 const OUTPUT_BYTES: usize = 312511;
 
 // What came of an input: the answer, and how many bytes were printed into the buffer.
-#[derive(Drop)]
+#[derive(Clone, Copy)]
 pub struct Printed {
     pub verdict: Verdict,
     pub length: usize,

@@ -1,4 +1,6 @@
 // The input of a day in two parts: its sheet goes to the end of the first line that begins with F0, or is all of it; the rest is tape.
+#![tactic(auto)]
+
 ghost use Rattle.std.specs.Prelude.{◌≡◌, ◌≤◌, length};
 ghost use Rattle.text.specs.Lines.{lines};
 ghost use Rattle.day_split.specs.Split.{begins_end};
@@ -7,7 +9,7 @@ ghost use Rattle.day_split.specs.Parted.{parted};
 use tables::byte;
 
 // How many bytes of an input are its sheet, and how many lines.
-#[derive(Drop)]
+#[derive(Clone, Copy)]
 pub struct Parts {
     pub bytes: usize,
     pub lines: usize,

@@ -1,4 +1,6 @@
 // What triggers with a delay let wait: the head of each whose conditions hold and whose body is met joins the row of its instant, nothing else does.
+#![tactic(auto)]
+
 ghost use Rattle.std.specs.Prelude.{◌≡◌, ◌&&◌, ltb};
 ghost use Rattle.theory.specs.Instant.{allows, met};
 ghost use Rattle.tables.specs.Layout.{trigger_at};

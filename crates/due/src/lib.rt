@@ -1,4 +1,6 @@
 // The due periodic events: those of the first n rows of any table that are due at the instant t join the events buffer, and nothing else does.
+#![tactic(auto)]
+
 ghost use Rattle.std.specs.Prelude.{◌≡◌, ◌+◌, ◌-◌, ◌%◌};
 ghost use Rattle.theory.specs.Sheet.{row_due};
 ghost use Rattle.periodics.specs.Rows.{periodic_of};

@@ -1,4 +1,6 @@
 // The nodes, and the + edges or the − edges that leave them, of the first n triggers of any table, as document 01 draws them.
+#![tactic(auto)]
+
 ghost use Rattle.std.specs.Prelude.{◌≡◌, ℕ};
 ghost use Rattle.theory.specs.Graph.{node};
 ghost use Rattle.tables.specs.Layout.{triggers_of};

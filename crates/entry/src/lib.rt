@@ -1,4 +1,6 @@
 // The step over a lent list of request records, as many as there are and in any order: `step` of their flat numbers, and over 32 TOO MANY.
+#![tactic(auto)]
+
 ghost use Rattle.std.specs.Prelude.{◌≡◌, ◌<◌, min, length, replicate};
 ghost use Rattle.theory.specs.Numbers.{REQUESTS};
 ghost use Rattle.tables.specs.Lent.{rules, lent};

@@ -1,4 +1,6 @@
 // The line for the screen: of a refusal the line that its place names, without its 0A, as a part of the sheet or of the tape, whichever was refused.
+#![tactic(auto)]
+
 ghost use Rattle.std.specs.Prelude.{◌≡◌};
 ghost use Rattle.text.specs.Lines.{lines};
 ghost use Rattle.faulty_line.specs.Part.{has_line, spot_of, tapes_end, in_tape, faulty_part, shown};
@@ -6,7 +8,7 @@ ghost use Rattle.faulty_line.specs.Part.{has_line, spot_of, tapes_end, in_tape, 
 use answers::{Name, Refusal};
 
 // A part of the sheet or of the tape: of which, from which byte, and up to which.
-#[derive(Drop)]
+#[derive(Clone, Copy)]
 pub struct Part {
     pub tape: bool,
     pub from: usize,
@@ -14,14 +16,14 @@ pub struct Part {
 }
 
 // A line of a text: from which byte, and up to which, its 0A or the end of the text.
-#[derive(Drop)]
+#[derive(Clone, Copy)]
 struct Span {
     from: usize,
     to: usize,
 }
 
 // Where a line of a text is; or the text has too few, and so many are left to count.
-#[derive(Drop)]
+#[derive(Clone, Copy)]
 enum Spot {
     At(Span),
     Past(u32),

@@ -1,4 +1,6 @@
 // FIELD: whether the fields of a frame are within document 01's limits, under a header's role count, and where the first begins that is not.
+#![tactic(auto)]
+
 ghost use Rattle.std.specs.Prelude.{◌≡◌, take};
 ghost use Rattle.frames.specs.Frame.{bytes_of, sum};
 ghost use Rattle.theory.specs.Below.{first_failing};

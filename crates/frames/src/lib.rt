@@ -1,4 +1,6 @@
 // A line as the bytes of a frame: each byte, 0 past the end, and how many; and CHECK, whether their sum is a multiple of 256.
+#![tactic(auto)]
+
 ghost use Rattle.std.specs.Prelude.{◌≡◌, ◌%◌, ◌<◌, get_or, length};
 ghost use Rattle.tables.specs.Layout.{two, four};
 ghost use Rattle.frames.specs.Frame.{value, bytes_of, checked, sum};

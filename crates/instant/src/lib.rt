@@ -1,4 +1,6 @@
 // The instant's own work, once nothing is refused: the givens, the solution, what waits, the roles after it, and the next instant.
+#![tactic(auto)]
+
 ghost use Rattle.std.specs.Prelude.{◌≡◌, ◌≤◌};
 ghost use Rattle.theory.specs.Numbers.{LAST_INSTANT};
 ghost use Rattle.tables.specs.Asked.{flat};

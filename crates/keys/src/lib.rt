@@ -1,4 +1,6 @@
 // The triggers chained by their keys, 0 for one that has no turn and else the level of its head and 1; and the way up the keys, which misses none.
+#![tactic(auto)]
+
 ghost use Rattle.std.specs.Prelude.{◌≡◌, ℕ, ◌<◌, ◌≤◌};
 ghost use Rattle.theory.specs.Numbers.{TRIGGER_ROWS};
 ghost use Rattle.theory.specs.Solving.{Gap};

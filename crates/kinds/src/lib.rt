@@ -1,4 +1,6 @@
 // KIND: whether a frame has the byte count of its kind, and may stand where it does: the header first, then rows, then the end and nothing more.
+#![tactic(auto)]
+
 ghost use Rattle.std.specs.Prelude.{◌≡◌, ◌&&◌, ◌<◌};
 ghost use Rattle.frames.specs.Frame.{bytes_of};
 ghost use Rattle.kinds.specs.Kinds.{size_of, sized, may_stand};
@@ -16,7 +18,7 @@ pub const TRIGGER: u8 = 0x30;
 pub const END: u8 = 0xf0;
 
 // Which frames may come next: the header, rows and the end, or nothing more.
-#[derive(Drop)]
+#[derive(Clone, Copy)]
 pub enum Stage {
     Start,
     Rows,

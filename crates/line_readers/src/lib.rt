@@ -1,4 +1,6 @@
 // What the readers of sheets and tapes share: the lines in order (in specs/), a line's tests in order, of which the first that fails refuses, and the column of a refusal.
+#![tactic(auto)]
+
 ghost use Rattle.std.specs.Prelude.{◌≡◌, ◌-◌, length};
 ghost use Rattle.line_readers.specs.Column.{column_of, in_line};
 ghost use Rattle.line_readers.specs.Order.{in_order};
@@ -7,7 +9,7 @@ use answers::{Name, Refusal, Verdict, refuse};
 use widths::row_index;
 
 // The tests of a line, in order: whether it passes FRAME, CHECK, KIND, TOO MANY and FIELD, and a last one, which is COUNT in a sheet and REQUEST in a tape.
-#[derive(Drop)]
+#[derive(Clone, Copy)]
 pub struct Tests {
     pub framed: bool,
     pub checked: bool,

@@ -1,4 +1,6 @@
 // The loop test of the first n triggers of any table: the first − edge on a cycle, or none; and the level of each event, how many reach it.
+#![tactic(auto)]
+
 ghost use Rattle.std.specs.Prelude.{◌≡◌, ◌&&◌, ℕ, ◌+◌, ◌<◌, length, get_or};
 ghost use Rattle.theory.specs.Numbers.{EVENTS};
 ghost use Rattle.theory.specs.Below.{one, count_below, first_below};
@@ -16,14 +18,14 @@ use theory::EVENTS;
 pub const LEVELS: usize = EVENTS as usize;
 
 // What the search finds: the first − edge on a cycle, as the pair from and to, or nothing.
-#[derive(Drop)]
+#[derive(Clone, Copy)]
 pub enum Found {
     At(u8, u8),
     Nothing,
 }
 
 // The answer of the loop test: what the search finds, and the level of each event, which is how many events reach it.
-#[derive(Drop)]
+#[derive(Clone, Copy)]
 pub struct Tested {
     pub found: Found,
     pub levels: [u8; LEVELS],

@@ -1,4 +1,6 @@
 // Buffers of masks of priorities: the number at a place, 0 past the end, and a priority joined to it. What is no place or no priority joins nothing.
+#![tactic(auto)]
+
 ghost use Rattle.std.specs.Prelude.{◌≡◌, get_or};
 ghost use Rattle.masks.specs.Masks.{with_priority, joined_at};
 ghost use Rattle.masks.specs.Joins.{joined_where};

@@ -1,4 +1,6 @@
 // Whether an event has a nonblocked member in an events buffer of any length; what is no event has none.
+#![tactic(auto)]
+
 ghost use Rattle.std.specs.Prelude.{◌≡◌};
 ghost use Rattle.theory.specs.Events.{nonblocked};
 ghost use Rattle.tables.specs.Buffers.{events_of};

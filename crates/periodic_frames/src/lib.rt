@@ -1,4 +1,6 @@
 // The row of a periodic frame, 16 bytes as its table holds them; of any line, for past its end stands 0.
+#![tactic(auto)]
+
 ghost use Rattle.std.specs.Prelude.{◌≡◌};
 ghost use Rattle.frames.specs.Frame.{bytes_of};
 ghost use Rattle.periodic_frames.specs.Row.{periodic_row};

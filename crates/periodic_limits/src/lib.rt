@@ -1,4 +1,6 @@
 // What a periodic row may hold: document 01's limits on each of its fields, which of them is the first to fail, and whether none is; and which events are of the roles.
+#![tactic(auto)]
+
 ghost use Rattle.std.specs.Prelude.{◌≡◌, ◌&&◌, leb};
 ghost use Rattle.theory.specs.Below.{first_failing};
 ghost use Rattle.theory.specs.Sheet.{of_roles, end_fits, periodic_tests, periodic_fits};

@@ -1,4 +1,6 @@
 // The fields of a periodic row, read from a table of any length by any row number; past the end stands 0.
+#![tactic(auto)]
+
 ghost use Rattle.std.specs.Prelude.{◌≡◌, ◌<◌};
 ghost use Rattle.tables.specs.Layout.{two, four, periodic_at};
 ghost use Rattle.periodics.specs.Rows.{periodic_of};
@@ -7,7 +9,7 @@ use tables::{PERIODIC_BYTES, byte};
 use widths::{pair, row_index};
 
 // A periodic row, field by field.
-#[derive(Drop)]
+#[derive(Clone, Copy)]
 pub struct PeriodicRow {
     pub begin: u32,
     pub end: u32,

@@ -1,4 +1,6 @@
 // What is printed, to the byte: the frame of a minute, and the whole line of a refusal.
+#![tactic(auto)]
+
 ghost use Rattle.std.specs.Prelude.{◌≡◌, ◌/◌, ◌%◌, ◌<◌};
 ghost use Rattle.printed_frames.specs.Frames.{refusal_frame, refusal_line, minute_frame};
 

@@ -1,4 +1,6 @@
 // A frame as its line, two digits a byte, then the check and 0A, laid over a buffer where it fits. What is printed so reads back.
+#![tactic(auto)]
+
 ghost use Rattle.std.specs.Prelude.{◌≡◌, [], ◌∷◌, ◌+◌, ◌*◌, ◌%◌, ◌≤◌, ◌<◌, length};
 ghost use Rattle.std.proofs.Math.Seq.{paste};
 ghost use Rattle.frames.specs.Frame.{sum};

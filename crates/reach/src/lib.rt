@@ -1,4 +1,6 @@
 // The reach: rows of edges closed, so that the row of an event has just the events that it comes to by zero edges or more.
+#![tactic(auto)]
+
 ghost use Rattle.std.specs.Prelude.{◌+◌, ◌<◌};
 ghost use Rattle.theory.specs.Numbers.{EVENTS};
 ghost use Rattle.theory.specs.Graph.{Edges};

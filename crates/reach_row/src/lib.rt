@@ -1,4 +1,6 @@
 // A row of events: whether it reaches one, one joined to it, two rows joined, and whether it reaches any. What is no event is in no row.
+#![tactic(auto)]
+
 ghost use Rattle.std.specs.Prelude.{◌≡◌, Bool, false, ◌&&◌, ◌||◌, ℕ, eqb};
 ghost use Rattle.theory.specs.Numbers.{EVENTS};
 ghost use Rattle.theory.specs.Below.{any_below};

@@ -1,4 +1,6 @@
 // The rows, one for each event: whether one event leads to another, and an edge added. What is no event has no row.
+#![tactic(auto)]
+
 ghost use Rattle.std.specs.Prelude.{◌≡◌, false};
 ghost use Rattle.reach_rows.specs.Rows.{edges_of, RowsAre, Become, linked};
 

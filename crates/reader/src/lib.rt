@@ -1,4 +1,6 @@
 // Reads any bytes into tables of any lengths: the first refusal in document 01's order, the tables as they came; or the counts, and the rows in them.
+#![tactic(auto)]
+
 ghost use Rattle.std.specs.Prelude.{◌≡◌, List, ℕ, ◌≤◌, ◌<◌, length};
 ghost use Rattle.theory.specs.Numbers.{SHEET_BYTES};
 ghost use Rattle.tables.specs.Layout.{PERIODIC_TABLE, TRIGGER_TABLE};
@@ -21,7 +23,7 @@ use tables::{Counts, PERIODIC_TABLE, TRIGGER_TABLE};
 pub const SHEET_BYTES: usize = 16384;
 
 // The answer of the reader: the counts of what was read, or the refusal.
-#[derive(Drop)]
+#[derive(Clone, Copy)]
 pub enum Reading {
     Good(Counts),
     Refused(Refusal),
@@ -40,7 +42,7 @@ pub fn verdict_of(reading: Reading) -> Verdict
 // ---- the lines in order
 
 // What came of a line, or of all of them.
-#[derive(Drop)]
+#[derive(Clone, Copy)]
 enum Taken {
     Goes(Seen),
     Refused(Refusal),

@@ -1,4 +1,6 @@
 // The requests of one instant, as flat numbers: each of them, whether it is within its limits, and REQUEST at the first of n that is not.
+#![tactic(auto)]
+
 ghost use Rattle.std.specs.Prelude.{◌≡◌};
 ghost use Rattle.tables.specs.Asked.{request_at, flat};
 ghost use Rattle.requests.specs.Requests.{fits, judge_requests};
@@ -14,7 +16,7 @@ use widths::row_index;
 pub const FLAT_NUMBERS: usize = REQUEST_BYTES * REQUESTS;
 
 // A request: its event, its priority, and for how many instants later it is.
-#[derive(Drop)]
+#[derive(Clone, Copy)]
 pub struct Request {
     pub event: u8,
     pub priority: u8,

@@ -1,4 +1,6 @@
 // A sheet, alone or before a tape, read and written again, of any bytes: the sheet at the front of the lent buffer, and where the rest begins; or a refusal.
+#![tactic(auto)]
+
 ghost use Rattle.std.specs.Prelude.{◌≡◌, ◌≤◌, length};
 ghost use Rattle.theory.specs.Numbers.{SHEET_BYTES};
 ghost use Rattle.tables.specs.Lent.{rules};
@@ -12,7 +14,7 @@ use reader::{Reading, SHEET_BYTES};
 use tables::{Counts, PERIODIC_TABLE, TRIGGER_TABLE};
 
 // What came of an input: the answer, how many bytes were written, and at which byte of the input what follows its sheet begins.
-#[derive(Drop)]
+#[derive(Clone, Copy)]
 pub struct Resent {
     pub verdict: Verdict,
     pub length: usize,

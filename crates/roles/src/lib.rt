@@ -1,4 +1,6 @@
 // The role set, a number of 64 bits: whether a role is enabled. What is no role is not.
+#![tactic(auto)]
+
 ghost use Rattle.std.specs.Prelude.{◌≡◌};
 ghost use Rattle.tables.specs.Buffers.{bit};
 

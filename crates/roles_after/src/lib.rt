@@ -1,4 +1,6 @@
 // After an instant: the roles, a nonblocked enable adding and a nonblocked disable removing one; and how many events have a nonblocked member.
+#![tactic(auto)]
+
 ghost use Rattle.std.specs.Prelude.{◌≡◌, ◌<◌};
 ghost use Rattle.theory.specs.Numbers.{ROLES, EVENTS};
 ghost use Rattle.theory.specs.Below.{count_below};

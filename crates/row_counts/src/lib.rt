@@ -1,4 +1,6 @@
 // TOO MANY and COUNT of a frame: whether there is room for its row, and whether an end's counts are those of the rows that were read.
+#![tactic(auto)]
+
 ghost use Rattle.std.specs.Prelude.{◌≡◌};
 ghost use Rattle.frames.specs.Frame.{bytes_of};
 ghost use Rattle.tables.specs.Layout.{byte_at, two};

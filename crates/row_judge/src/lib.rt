@@ -1,4 +1,6 @@
 // The judge of lent rows, whatever the counts and the tables: TOO MANY, FIELD of the role count, FIELD at the first bad row, or a pass.
+#![tactic(auto)]
+
 ghost use Rattle.std.specs.Prelude.{◌≡◌, ◌&&◌, ◌≤◌, leb};
 ghost use Rattle.theory.specs.Numbers.{ROLES, PERIODIC_ROWS, TRIGGER_ROWS};
 ghost use Rattle.tables.specs.Lent.{rules, sheet_in};

@@ -1,5 +1,7 @@
 // The sheet program: it reads an input and writes its sheet again, as the writer writes it, and then what follows the sheet, as it stood. No contract says what is read or written; what is to be
 // believed stands in `resend`.
+#![tactic(auto)]
+
 use answers::Verdict;
 
 // Prints the sheet of an input, by way of a buffer that is lent for it, and the rest of the input; or the line of the refusal.

@@ -1,4 +1,6 @@
 // What a frame that passed does to what was read so far: one line more, the next stage, the role count or a row in its table.
+#![tactic(auto)]
+
 ghost use Rattle.std.specs.Prelude.{◌≡◌, true, ◌<◌, length};
 ghost use Rattle.frames.specs.Frame.{bytes_of};
 ghost use Rattle.tables.specs.Layout.{PERIODIC_TABLE, TRIGGER_TABLE};

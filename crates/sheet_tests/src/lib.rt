@@ -1,4 +1,6 @@
 // The tests of a line of a sheet, in order: FRAME, CHECK, KIND, TOO MANY, FIELD, COUNT. The first that fails refuses it, at the place handed in and in its column.
+#![tactic(auto)]
+
 ghost use Rattle.std.specs.Prelude.{◌≡◌};
 ghost use Rattle.answers.specs.declared.Name.TheVariants.{Count};
 ghost use Rattle.line_readers.specs.Order.{in_order};
@@ -10,7 +12,7 @@ use line_readers::Tests;
 use tables::Counts;
 
 // What was read so far: how many lines, which frames may come, and the counts: the roles, and the rows of each kind.
-#[derive(Drop)]
+#[derive(Clone, Copy)]
 pub struct Seen {
     pub line: u32,
     pub stage: Stage,

@@ -1,4 +1,6 @@
 // The solver of one instant: givens become the one solution, where the rows are in good order and the levels meet the rule.
+#![tactic(auto)]
+
 ghost use Rattle.std.specs.Prelude.{◌≡◌, ◌≤◌, length};
 ghost use Rattle.theory.specs.Numbers.{EVENTS, TRIGGER_ROWS};
 ghost use Rattle.solver.specs.Solved.{Solved};

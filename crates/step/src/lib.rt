@@ -1,4 +1,6 @@
 // One step, of whatever is lent: the first refusal in document 01's order, and all as it was; or the solution, what waits, the roles after.
+#![tactic(auto)]
+
 ghost use Rattle.std.specs.Prelude.{◌≤◌};
 ghost use Rattle.theory.specs.Numbers.{LAST_INSTANT};
 ghost use Rattle.tables.specs.Asked.{flat};

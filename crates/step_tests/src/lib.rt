@@ -1,4 +1,6 @@
 // The tests of a step before its tables: LENGTH, LAST, and TOO MANY of requests, in this order.
+#![tactic(auto)]
+
 ghost use Rattle.std.specs.Prelude.{◌≡◌};
 ghost use Rattle.step_tests.specs.Order.{exact_lengths, judge_first};
 

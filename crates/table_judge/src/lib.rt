@@ -1,4 +1,6 @@
 // The judge of lent tables, whatever they hold: TOO MANY, FIELD, LOOP, in this order; and the levels that the loop test found.
+#![tactic(auto)]
+
 ghost use Rattle.std.specs.Prelude.{◌≡◌};
 ghost use Rattle.tables.specs.Layout.{triggers_of};
 ghost use Rattle.tables.specs.Lent.{rules, sheet_in};
@@ -13,7 +15,7 @@ use theory::EVENTS;
 const FROM: u32 = EVENTS as u32;
 
 // The judge's answer: the verdict, and the level of each event by the loop test; zeros where the rows are refused, for then it is not asked.
-#[derive(Drop)]
+#[derive(Clone, Copy)]
 pub struct Judged {
     pub verdict: Verdict,
     pub levels: [u8; LEVELS],

@@ -1,4 +1,6 @@
 // What is lent, to the byte: any byte of a table of any length, 0 past its end; a trigger's bytes by their row; a row copied in where it fits.
+#![tactic(auto)]
+
 ghost use Rattle.std.specs.Prelude.{◌≡◌, ◌+◌, ◌*◌, ◌≤◌, length};
 ghost use Rattle.std.proofs.Math.Seq.{paste};
 ghost use Rattle.tables.specs.Layout.{TRIGGER_BYTES, byte_at};
@@ -24,7 +26,7 @@ pub const WAITING_NUMBERS: usize = EVENTS_NUMBERS * (WAITING_ROWS as usize);
 pub const REQUEST_BYTES: usize = 3;
 
 // How much of what is lent is used: the role count, and the rows of each table.
-#[derive(Drop)]
+#[derive(Clone, Copy)]
 pub struct Counts {
     pub roles: u8,
     pub periodics: u16,

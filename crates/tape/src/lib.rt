@@ -1,4 +1,6 @@
 // Reads a tape to its end: the first refusal, at its line in the whole input, or what was heard, with the last instant.
+#![tactic(auto)]
+
 ghost use Rattle.std.specs.Prelude.{◌≡◌, true, ◌≤◌, ◌<◌, length};
 ghost use Rattle.frames.specs.Frame.{bytes_of};
 ghost use Rattle.tape_tests.specs.Tests.{room_for_request};
@@ -11,7 +13,7 @@ use tape_frames::{ASK, instant_of};
 use tape_tests::Heard;
 
 // What came of a line, or of all of them.
-#[derive(Drop)]
+#[derive(Clone, Copy)]
 pub enum Taken {
     Goes(Heard),
     Refused(Refusal),

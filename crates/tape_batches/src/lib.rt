@@ -1,4 +1,6 @@
 // The requests of one instant that stand in a tape at a byte and on, at most 32, as flat numbers; and where the tape goes on.
+#![tactic(auto)]
+
 ghost use Rattle.std.specs.Prelude.{◌≡◌, ◌&&◌, ltb, ◌<◌, length, drop};
 ghost use Rattle.theory.specs.Numbers.{REQUESTS};
 ghost use Rattle.text.specs.Lines.{lines};
@@ -14,7 +16,7 @@ use tape_frames::{ASK, asked_in, instant_of};
 use theory::REQUESTS;
 
 // The requests of one instant as flat numbers, how many there are, and where the tape goes on.
-#[derive(Drop)]
+#[derive(Clone, Copy)]
 pub struct Batch {
     pub asked: [u8; FLAT_NUMBERS],
     pub count: usize,

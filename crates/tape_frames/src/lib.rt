@@ -1,4 +1,6 @@
 // What a frame of a tape says: its instant, and its request; of any line, for past its end stands 0.
+#![tactic(auto)]
+
 ghost use Rattle.std.specs.Prelude.{◌≡◌};
 ghost use Rattle.frames.specs.Frame.{bytes_of};
 ghost use Rattle.requests.specs.Asked.{request_of};

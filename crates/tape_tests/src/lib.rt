@@ -1,4 +1,6 @@
 // The tests of a line of a tape, in order: FRAME, CHECK, KIND, TOO MANY, FIELD, REQUEST. The first that fails refuses it, at the place handed in and in its column.
+#![tactic(auto)]
+
 ghost use Rattle.std.specs.Prelude.{◌≡◌};
 ghost use Rattle.answers.specs.declared.Name.TheVariants.{Request};
 ghost use Rattle.line_readers.specs.Order.{in_order};
@@ -22,7 +24,7 @@ const REQUESTS: u8 = 32;
 
 // What was read of a tape so far: how many lines of the whole input, whether the end was there, the instant of the last request and how many requests in a row are of it,
 // and the last instant that the end said. (Before the first request the instant is 0, and none is of it.)
-#[derive(Drop)]
+#[derive(Clone, Copy)]
 pub struct Heard {
     pub line: u32,
     pub ended: bool,

@@ -1,4 +1,6 @@
 // The lines of a text: where each ends, at its 0A or with the text; and FRAME, whether a line is one or more pairs of upper-case hexadecimal digits, and its column.
+#![tactic(auto)]
+
 ghost use Rattle.std.specs.Prelude.{◌≡◌, true, ◌+◌, ◌≤◌, length, drop};
 ghost use Rattle.text.specs.Framed.{is_digit, framed, all_digits, frame_column};
 ghost use Rattle.text.specs.Lines.{span};

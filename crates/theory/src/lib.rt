@@ -1,4 +1,5 @@
 // The model: document 01's rules as definitions, and what is proved of them; in code only its numbers.
+#![tactic(auto)]
 
 // ---- 'Numbers'
 

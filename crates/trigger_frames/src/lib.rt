@@ -1,4 +1,6 @@
 // The row of a trigger frame, 13 bytes as its table holds them, with 0 in the places past its counts; of any line, for past its end stands 0.
+#![tactic(auto)]
+
 ghost use Rattle.std.specs.Prelude.{◌≡◌, ◌<◌};
 ghost use Rattle.frames.specs.Frame.{bytes_of};
 ghost use Rattle.trigger_frames.specs.Row.{placed, event_place, condition_place, last_place, trigger_row};

@@ -1,4 +1,6 @@
 // What a trigger may hold: document 01's limits on each of its fields, which of them is the first to fail, and whether none is, in any row of a table of any length.
+#![tactic(auto)]
+
 ghost use Rattle.std.specs.Prelude.{◌≡◌, ◌+◌, ◌≤◌, ◌<◌, not};
 ghost use Rattle.theory.specs.Below.{first_below, first_failing};
 ghost use Rattle.theory.specs.Sheet.{of_roles, event_tests, trigger_tests, trigger_fits};

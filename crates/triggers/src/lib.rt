@@ -1,4 +1,6 @@
 // The body events and conditions of a trigger, and whether it counts, from a table of any length by any row number; past the end stands 0.
+#![tactic(auto)]
+
 ghost use Rattle.std.specs.Prelude.{◌≡◌, ℕ};
 ghost use Rattle.theory.specs.Graph.{counts};
 ghost use Rattle.tables.specs.Layout.{trigger_at, triggers_of};

@@ -1,5 +1,7 @@
 // Reads cases of the form of second/FORMAT.md, 'A line case', and prints the result of each. A case that is not in the form ends the run
 // with the line `bad case`.
+#![tactic(auto)]
+
 use answers::{Name, Refusal};
 use cases::{Run, put, value};
 use faulty_line::Part;

@@ -1,5 +1,7 @@
 // Reads cases of the form of second/FORMAT.md, 'A read case', and prints the result of each. A case that is not in the form ends the run
 // with the line `bad case`.
+#![tactic(auto)]
+
 use cases::{Run, four, put, put_row, value};
 use reader::Reading;
 use tables::{Counts, byte};

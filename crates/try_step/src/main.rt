@@ -1,5 +1,7 @@
 // Takes cases of the form of second/FORMAT.md, 'A step case', and prints the result of each. A case that is not in the form ends the run
 // with the line `bad case`.
+#![tactic(auto)]
+
 use answers::Verdict;
 use cases::{Run, four, put, take_rows, value};
 use tables::Counts;

@@ -1,5 +1,7 @@
 // Takes cases of the form of second/FORMAT.md, 'A write case', and prints the result of each. A case that is not in the form ends the run
 // with the line `bad case`.
+#![tactic(auto)]
+
 use cases::{Run, four, put, store, take_rows, value};
 use tables::{Counts, byte};
 use widths::one;

@@ -1,4 +1,6 @@
 // The turns of the triggers of one key: where a body is met the head joins the events, sweep after sweep, until nothing is added.
+#![tactic(auto)]
+
 ghost use Rattle.std.specs.Prelude.{◌≡◌, true, ℕ, length};
 ghost use Rattle.theory.specs.Numbers.{EVENTS};
 ghost use Rattle.theory.specs.Solving.{Turn};

@@ -1,4 +1,6 @@
 // The waiting buffer: where an event stands that waits for an instant; an instant's row copied over the events, and cleared.
+#![tactic(auto)]
+
 ghost use Rattle.std.specs.Prelude.{◌≡◌, ◌+◌, set};
 ghost use Rattle.waiting.specs.Waiting.{place_of, copied, cleared};
 

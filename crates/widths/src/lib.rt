@@ -1,4 +1,6 @@
 // Numbers in more bits: each stays the number that it was.
+#![tactic(auto)]
+
 ghost use Rattle.std.specs.Prelude.{◌≡◌, ◌+◌, ◌*◌, ◌<◌};
 ghost use Rattle.theory.specs.Below.{one};
 

@@ -1,4 +1,6 @@
 // Writes lent tables as a sheet, whatever is lent: the first refusal in a step's order, and the buffer as it came; or the sheet at its front.
+#![tactic(auto)]
+
 ghost use Rattle.std.specs.Prelude.{◌≡◌, ◌+◌, ◌*◌, ◌≤◌, length};
 ghost use Rattle.theory.specs.Numbers.{SHEET_BYTES};
 ghost use Rattle.theory.specs.Sheet.{GoodOrder};
@@ -25,7 +27,7 @@ const TRIGGER_FRAME: usize = 1 + TRIGGER_BYTES;
 const END_FRAME: usize = 4;
 
 // What came of writing: the answer, and how many bytes were written.
-#[derive(Drop)]
+#[derive(Clone, Copy)]
 pub struct Sent {
     pub verdict: Verdict,
     pub length: usize,
