@@ -1,3 +1,2 @@
 -- What comes back: document 01's answers, their numbers and their places.
 pub mod Answers
-pub mod Laws

@@ -17,8 +17,8 @@ use Rattle.theory.specs.Graph.{NoLoop, LoopAt}
 use Rattle.theory.specs.Used.{SameUsed}
 use Rattle.theory.specs.Model.{Stream}
 use Rattle.theory.specs.LoopTest.{PAIRS, loop_place}
-use Rattle.theory.specs.Laws.Loop
-use Rattle.theory.specs.Laws.OneSolution
+use Rattle.theory.proofs.Laws.Loop
+use Rattle.theory.proofs.Laws.OneSolution
 use Rattle.answers.specs.declared.Name.{Name}
 use Rattle.answers.specs.declared.Name.TheVariants.{Length as LENGTH, Kind as KIND, Loop as LOOP}
 use Rattle.answers.specs.declared.Refusal.{Refusal}
@@ -45,7 +45,7 @@ use Rattle.accepted.specs.Laws.Accepted
 use Rattle.line_by_line.specs.Lines.{lines_in, rest_in, joined, CutInto}
 use Rattle.line_by_line.specs.Tests.{role_count}
 use Rattle.line_by_line.specs.ComesBack.{frames_before, RefusedAt, faulty_line, refusal_at, ReadsWhole, periodic_table, trigger_table, counts_of, LengthsFit, frames_in, ComesBack}
-use Rattle.line_by_line.specs.Laws.Cut
+use Rattle.line_by_line.proofs.Laws.Cut
 use Rattle.table_judge.specs.Judge.{judge_tables}
 use Rattle.table_judge.specs.Says.{Says}
 use Rattle.writer.specs.declared.Sent.{Sent}
@@ -55,13 +55,13 @@ use Rattle.tables.specs.Lent.{Rules, sheet_in, Lent, rules}
 use Rattle.requests.specs.Requests.{AllFit}
 use Rattle.step.specs.Outcome.{Outcome}
 use Rattle.tables.specs.Used.{SameRules}
-use Rattle.step.specs.Laws.Exact
-use Rattle.step.specs.Laws.Used
+use Rattle.step.proofs.Laws.Exact
+use Rattle.step.proofs.Laws.Used
 use Rattle.runs.specs.Runs.{Steps, GoesOn, IsPapers}
-use Rattle.runs.specs.Laws.{run_is_papers}
+use Rattle.runs.proofs.Laws.{run_is_papers}
 use Rattle.day_split.specs.Split.{up_to_end, after_end, sheet_part, tape_part}
-use Rattle.day_split.specs.Laws.Parts
-use Rattle.day_split.specs.Laws.Lines as SplitLines
+use Rattle.day_split.proofs.Laws.Parts
+use Rattle.day_split.proofs.Laws.Lines as SplitLines
 use Rattle.day_input.specs.Opening.{INPUT_BYTES, opens, refused, sheet_reading, opening}
 use Rattle.tape.specs.Tape.{tape_read}
 use Rattle.tape.specs.Laws.Column as TapeColumn
@@ -77,7 +77,7 @@ use Rattle.day_print.specs.declared.Printed.{Printed}
 use Rattle.day_print.specs.Day.{Prints, DayOutcome, written}
 use Rattle.examples.specs.Example.{Said}
 use Rattle.examples.specs.Table.{table}
-use Rattle.examples.specs.Laws.Said.{all_say}
+use Rattle.examples.proofs.Laws.Said.{all_say}
 use Rattle.claims.specs.Words.{ReadsInOrder, Ordered, WriteLengths, SentBack, SolvesFor, count_in, Shows, EndMissing, NoColumn, no_periodics, no_triggers, looped, worked_sheet, worked, asked, mistyped, EachRefused}
 use Rattle.claims.specs.Laws.Numbers
 use Rattle.claims.specs.Laws.Reader

@@ -13,7 +13,7 @@ use Rattle.theory.specs.Instant.{allows, met}
 use Rattle.theory.specs.LoopTest.{through}
 use Rattle.theory.specs.Numbers.{EVENTS, ROLES}
 use Rattle.theory.specs.Sheet.{GoodOrder, of_roles, periodic_tests, periodic_fits, trigger_tests, trigger_fits}
-use Rattle.theory.specs.Laws.Exact.{exact}
+use Rattle.theory.proofs.Laws.Exact.{exact}
 use Rattle.answers.specs.declared.Name.{Name}
 use Rattle.answers.specs.declared.Refusal.{Refusal}
 use Rattle.answers.specs.declared.Verdict.{Verdict}
@@ -86,15 +86,15 @@ use Rattle.reach_rows.specs.Laws.Exact as reach-rows
 use Rattle.reach.specs.Laws.Exact as reach
 use Rattle.edges.specs.Laws.Exact as edges
 use Rattle.sheet_acts.specs.Laws.Exact as sheet-acts
-use Rattle.reader.specs.Laws.Exact as reader
-use Rattle.writer.specs.Laws.Exact as writer
+use Rattle.reader.proofs.Laws.Exact as reader
+use Rattle.writer.proofs.Laws.Exact as writer
 use Rattle.requests.specs.Laws.Exact as requests
 use Rattle.instant.specs.Laws.Exact as act
-use Rattle.step.specs.Laws.Exact as Step
-use Rattle.entry.specs.Laws.Exact as entry
+use Rattle.step.proofs.Laws.Exact as Step
+use Rattle.entry.proofs.Laws.Exact as entry
 use Rattle.tape_frames.specs.Laws.Exact as tape-frames
 use Rattle.tape.specs.Laws.Exact as tape
-use Rattle.day_input.specs.Laws.Exact as day-input
+use Rattle.day_input.proofs.Laws.Exact as day-input
 use Rattle.resend.specs.Laws as resend
 use Rattle.day_minute.specs.Laws.Exact as day-minute
 use Rattle.day_print.specs.Laws.Exact as day-print

@@ -1,4 +1,3 @@
 -- The whole input of a day, tested before the first instant.
 pub mod Opening
 pub mod Planned
-pub mod Laws

@@ -1,4 +1,3 @@
 -- The input of a day in its two parts, a sheet and a tape.
 pub mod Split
 pub mod Parted
-pub mod Laws

@@ -8,7 +8,7 @@ use Rattle.theory.specs.Numbers.{EVENTS}
 use Rattle.theory.specs.Below.{any_below}
 use Rattle.theory.specs.Sheet.{Trigger, Sheet}
 use Rattle.theory.specs.Graph.{Edges, counts, node, drawn}
-use Rattle.theory.specs.Laws.Tests.{same_or}
+use Rattle.theory.proofs.Laws.Tests.{same_or}
 use Rattle.tables.specs.Layout.{trigger_at, sheet_of, triggers_of}
 use Rattle.reach_row.specs.Row.{Row, reaches, RowIs}
 use Rattle.reach_row.specs.Laws.Row.{row_same}

@@ -1,3 +1,2 @@
 -- The step over a lent list of request records.
 pub mod Listed
-pub mod Laws

@@ -53,7 +53,8 @@ fn flatten(requests: &[Request]) -> [u8; FLAT_NUMBERS]
     let mut i: usize = 0;
     while i < n {
         let r = requests[i];
-        l = put(l, i, r);
+        let more = put(l, i, r);
+        l = more;
         i += 1;
     }
     l

@@ -7,7 +7,7 @@ use Rattle.std.proofs.Math.Logic.{by_cases}
 use Rattle.std.proofs.Math.Decide.{dec_lt}
 use Rattle.std.proofs.Math.Seq.{take-append_seam, drop-append_seam}
 use borrow.Author.Tests.{eqb-true, eqb-false, eq-eqb, ne_eqb}
-use Rattle.theory.specs.Laws.Tests.{test}
+use Rattle.theory.proofs.Laws.Tests.{test}
 use Rattle.text.specs.Lines.{LINE_END, Lines, none, endless, line, lines, all_lines, span}
 use Rattle.text.specs.Laws.Lines.{line_here, endless_here, end_le, text_of, text_lines}
 use Rattle.answers.specs.declared.Refusal.{Refusal}

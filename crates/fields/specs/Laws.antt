@@ -7,10 +7,10 @@ use Rattle.std.proofs.Math.ListN.{length}
 use borrow.Author.Tests.{leb-true, eqb-true, ne_eqb}
 use Rattle.theory.specs.Below.{all_below, all, first_failing, FailsFirst}
 use Rattle.theory.specs.Sheet.{periodic_tests, periodic_fits, trigger_tests, trigger_fits}
-use Rattle.theory.specs.Laws.Tests.{test}
-use Rattle.theory.specs.Laws.Below.{all_elim}
-use Rattle.theory.specs.Laws.All.{first_failing_lem}
-use Rattle.theory.specs.Laws.FirstBad.{fields_of}
+use Rattle.theory.proofs.Laws.Tests.{test}
+use Rattle.theory.proofs.Laws.Below.{all_elim}
+use Rattle.theory.proofs.Laws.All.{first_failing_lem}
+use Rattle.theory.proofs.Laws.FirstBad.{fields_of}
 use Rattle.tables.specs.Layout.{byte_at, periodic_at, trigger_from, trigger_at}
 use Rattle.frames.specs.Frame.{sum}
 use Rattle.periodic_frames.specs.Row.{periodic_row}

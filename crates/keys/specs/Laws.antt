@@ -5,9 +5,9 @@ use Rattle.std.proofs.Common.{ap, ◌∙◌, subst, ⊎_elim, eq-or-lt_of_le, ar
 use Rattle.std.proofs.lemmas.List.{length-replicate, get_or-replicate}
 use Rattle.std.proofs.lemmas.Bool.{eqb-false}
 use Rattle.theory.specs.Numbers.{TRIGGER_ROWS}
-use Rattle.theory.specs.Laws.Tests.{test}
+use Rattle.theory.proofs.Laws.Tests.{test}
 use Rattle.theory.specs.Solving.{Gap}
-use Rattle.theory.specs.Laws.Solving.{gap_wider}
+use Rattle.theory.proofs.Laws.Solving.{gap_wider}
 use Rattle.keys.specs.Keys.{KEYS, PLACES, first_of, after_of, First, Chained}
 
 module _ (key : ℕ → ℕ) (n : ℕ) where

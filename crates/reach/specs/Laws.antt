@@ -9,8 +9,8 @@ use Rattle.std.proofs.Math.Dec.{eqb}
 use Rattle.theory.specs.Numbers.{EVENTS}
 use Rattle.theory.specs.Graph.{Edges}
 use Rattle.theory.specs.LoopTest.{through}
-use Rattle.theory.specs.Laws.Tests.{test, same_or}
-use Rattle.theory.specs.Laws.Reach.{through_start, through_next}
+use Rattle.theory.proofs.Laws.Tests.{test, same_or}
+use Rattle.theory.proofs.Laws.Reach.{through_start, through_next}
 use Rattle.reach_row.specs.Row.{Row, RowIs}
 use Rattle.reach_row.specs.Laws.Changes.{not_yet, one_more, all_made}
 use Rattle.reach_row.specs.Laws.Row.{row_same}

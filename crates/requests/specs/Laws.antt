@@ -10,13 +10,13 @@ use borrow.Author.Tests.{leb-true, le-leb, ltb-true, lt-ltb, le-ltb, ltb-false, 
 use Rattle.theory.specs.Numbers.{LONGEST_DELAY}
 use Rattle.theory.specs.Below.{first_below}
 use Rattle.theory.specs.Sheet.{of_roles, is_priority, is}
-use Rattle.theory.specs.Laws.Tests.{and_left, and_right, and_both, bool_ext, test}
-use Rattle.theory.specs.Laws.Below.{any_intro, any_elim}
-use Rattle.theory.specs.Laws.Limits.{RequestWithin, request_says}
-use Rattle.theory.specs.Laws.First.{first_none, first_past}
+use Rattle.theory.proofs.Laws.Tests.{and_left, and_right, and_both, bool_ext, test}
+use Rattle.theory.proofs.Laws.Below.{any_intro, any_elim}
+use Rattle.theory.proofs.Laws.Limits.{RequestWithin, request_says}
+use Rattle.theory.proofs.Laws.First.{first_none, first_past}
 use Rattle.answers.specs.declared.Name.TheVariants.{Request}
 use Rattle.answers.specs.declared.Verdict.TheVariants.{Pass}
-use Rattle.answers.specs.Laws.{no_pass}
+use Rattle.answers.proofs.Laws.{no_pass}
 use Rattle.answers.specs.Answers.{refuse}
 use Rattle.tables.specs.Asked as lent
 use Rattle.tables.specs.Asked.{Asked, asks}

@@ -19,7 +19,7 @@ use Rattle.reader.specs.Out.{ReadOutcome, read_outcome}
 use Rattle.reader.specs.Reading.{reading}
 use Rattle.accepted.specs.Laws.Accepted.{reading_good, reading_passes, reading_sizes}
 use Rattle.writer.specs.Outcome.{WriteOutcome}
-use Rattle.writer.specs.Laws.Exact.{Passes, passes_so, front_one}
+use Rattle.writer.proofs.Laws.Exact.{Passes, passes_so, front_one}
 use Rattle.day_split.specs.declared.Parts.{Parts}
 use Rattle.day_split.specs.Split.{sheet_bytes, sheet_part}
 use Rattle.day_split.specs.Parted.{parted}

@@ -1,3 +1,2 @@
--- The two round trips of document 02, [1]. Everything below `Laws` is proved of them; the demands (claims/Demands) say them of the reader's and the writer's outcomes.
+-- The two round trips of document 02, [1]. What is proved of them stands in proofs/, below `Laws`; the demands (claims/Demands) say them of the reader's and the writer's outcomes.
 pub mod Order
-pub mod Laws

@@ -1,3 +1,2 @@
 -- The judge of the lent rows: TOO MANY and FIELD.
 pub mod Judge
-pub mod Laws

@@ -1,3 +1,2 @@
 -- Any run of accepted steps is the paper's.
 pub mod Runs
-pub mod Laws

@@ -3,7 +3,7 @@
 use Rattle.std.specs.Prelude.{◌≡◌, refl, true, false, List, ℕ, ◌+◌, ◌*◌, eqb, length}
 use Rattle.std.proofs.Common.{⊎_elim, eq-eqb, ne_eqb}
 use Rattle.std.proofs.Math.Seq.{paste}
-use Rattle.theory.specs.Laws.Tests.{test}
+use Rattle.theory.proofs.Laws.Tests.{test}
 use Rattle.kinds.specs.Kinds.{HEADER, PERIODIC, TRIGGER}
 use Rattle.sheet_tests.specs.declared.Seen.{Seen}
 use Rattle.sheet_acts.specs.Acts.{seen_after, table_after}

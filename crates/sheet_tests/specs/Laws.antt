@@ -2,7 +2,7 @@
 -- Assumes nothing.
 use Rattle.std.specs.Prelude.{◌≡◌, refl, true, List, ℕ}
 use Rattle.std.proofs.Common.{arith}
-use Rattle.theory.specs.Laws.Tests.{and_left, and_right}
+use Rattle.theory.proofs.Laws.Tests.{and_left, and_right}
 use Rattle.answers.specs.declared.Name.TheVariants.{Count}
 use Rattle.answers.specs.declared.Refusal.{Refusal}
 use Rattle.answers.specs.declared.Verdict.TheVariants.{Pass, Refused}

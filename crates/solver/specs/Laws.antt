@@ -7,9 +7,9 @@ use Rattle.theory.specs.Events.{Events}
 use Rattle.theory.specs.Sheet.{Sheet}
 use Rattle.theory.specs.Instant.{ready, Closed, IsLeast}
 use Rattle.theory.specs.Graph.{counts}
-use Rattle.theory.specs.Laws.Levels.{up, levels_stratified, ready_counts}
+use Rattle.theory.proofs.Laws.Levels.{up, levels_stratified, ready_counts}
 use Rattle.theory.specs.Solving.{Keys, key_of, Reached}
-use Rattle.theory.specs.Laws.Solving.{keys_are, reached_last}
+use Rattle.theory.proofs.Laws.Solving.{keys_are, reached_last}
 use Rattle.tables.specs.Layout.{byte_at, sheet_of, triggers_of}
 use Rattle.tables.specs.Buffers.{roles_of, events_of}
 use Rattle.keys.specs.Keys.{KEYS, key_in}

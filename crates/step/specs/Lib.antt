@@ -1,4 +1,3 @@
--- One step: its outcome, its parts, and that the outcome is one.
+-- One step: its outcome and its parts. (That the outcome is one stands in proofs/, `Laws.Exact`.)
 pub mod Outcome
 pub mod Parts
-pub mod Laws

@@ -2,4 +2,3 @@
 pub mod Judge
 pub mod Judged
 pub mod Says
-pub mod Laws

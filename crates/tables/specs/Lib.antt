@@ -4,4 +4,3 @@ pub mod Buffers
 pub mod Asked
 pub mod Lent
 pub mod Used
-pub mod Laws

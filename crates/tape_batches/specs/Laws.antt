@@ -4,7 +4,7 @@ use Rattle.std.specs.Prelude.{◌≡◌, true, false, ◌&&◌, List, ℕ, ◌+�
 use Rattle.std.proofs.Math.Path.{refl}
 use Rattle.std.proofs.Common.{◌∙◌, arith, length-drop, length-take, drop_of_length-le, ltb-true}
 use Rattle.theory.specs.Numbers.{REQUESTS}
-use Rattle.theory.specs.Laws.Tests.{and_right}
+use Rattle.theory.proofs.Laws.Tests.{and_right}
 use Rattle.text.specs.Lines.{Lines, lines, span}
 use Rattle.text.specs.Laws.Lines.{line_here, endless_here}
 use Rattle.frames.specs.Frame.{bytes_of}

@@ -1,5 +1,5 @@
 -- What the solver goes by, for its own functions: the triggers whose heads stand on one level are swept over, in the set itself, until nothing is added; then those of the next level.
--- (No sentence of document 01: what the solver hands out is `Solves`, and `Laws.Stage` proves that this way leads there.)
+-- (No sentence of document 01: what the solver hands out is `Solves`, and `Laws.Solving` proves that this way leads there.)
 -- Assumes nothing.
 use Rattle.std.specs.Prelude.{◌≡◌, ◌⊎◌, Bool, true, false, cond, ◌&&◌, ℕ, suc, ◌*◌, ◌/◌, ◌%◌, ◌≤◌, ◌<◌, ltb}
 use Rattle.theory.specs.Numbers.{EVENTS, PRIORITIES}

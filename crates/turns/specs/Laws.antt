@@ -6,7 +6,7 @@ use Rattle.theory.specs.Numbers.{EVENTS, PRIORITIES}
 use Rattle.theory.specs.Events.{Events}
 use Rattle.theory.specs.Instant.{met}
 use Rattle.theory.specs.Solving.{Turn, Swept}
-use Rattle.theory.specs.Laws.Solving.{turn_idle, turn_added, swept_none, swept_turn, swept_past}
+use Rattle.theory.proofs.Laws.Solving.{turn_idle, turn_added, swept_none, swept_turn, swept_past}
 use Rattle.tables.specs.Layout.{sheet_of, trigger_at, triggers_of}
 use Rattle.tables.specs.Buffers.{bit, events_of}
 use Rattle.masks.specs.Masks.{joined_at}

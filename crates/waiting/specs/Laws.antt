@@ -8,7 +8,7 @@ use Rattle.std.proofs.Math.Decide.{dec_lt}
 use Rattle.std.proofs.lemmas.Bool.{eqb-false}
 use Rattle.theory.specs.Numbers.{EVENTS, WAITING_NUMBERS}
 use Rattle.theory.specs.Box.{row}
-use Rattle.theory.specs.Laws.Tests.{test}
+use Rattle.theory.proofs.Laws.Tests.{test}
 use Rattle.tables.specs.Buffers.{bit, events_of, waiting_of}
 use Rattle.masks.specs.Laws.Bits.{bit_none}
 use Rattle.masks.specs.Laws.Joins.{writes_in, writes_out}

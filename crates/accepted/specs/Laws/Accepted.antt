@@ -13,9 +13,9 @@ use borrow.Author.Tests.{ltb-false}
 use Rattle.theory.specs.Sheet.{Sheet, GoodOrder}
 use Rattle.theory.specs.Graph.{NoLoop, LoopAt}
 use Rattle.theory.specs.LoopTest.{PAIRS, loop_place}
-use Rattle.theory.specs.Laws.Tests.{test}
-use Rattle.theory.specs.Laws.Loop.{loop_or}
-use Rattle.theory.specs.Laws.OneSolution.{good_heads}
+use Rattle.theory.proofs.Laws.Tests.{test}
+use Rattle.theory.proofs.Laws.Loop.{loop_or}
+use Rattle.theory.proofs.Laws.OneSolution.{good_heads}
 use Rattle.answers.specs.declared.Refusal.{Refusal}
 use Rattle.answers.specs.declared.Verdict.TheVariants.{Pass}
 use Rattle.text.specs.Lines.{lines}
@@ -27,9 +27,9 @@ use Rattle.sheet_acts.specs.Acts.{Progress}
 use Rattle.reader.specs.Lines.{reads}
 use Rattle.reader.specs.declared.Reading.TheVariants.{Good, Refused}
 use Rattle.table_judge.specs.Judge.{judge_tables}
-use Rattle.table_judge.specs.Laws.{judge_refuses_not}
+use Rattle.table_judge.proofs.Laws.{judge_refuses_not}
 use Rattle.reader.specs.Out.{ReadOutcome, read_outcome, sheet_read, out_by_loop, after_lines}
-use Rattle.reader.specs.Laws.Exact.{outcome_one}
+use Rattle.reader.proofs.Laws.Exact.{outcome_one}
 use Rattle.reader.specs.Reading.{start, by_lines, sheet_lengths_fit, reading}
 use Rattle.accepted.specs.Laws.SoFar.{SoFar}
 use Rattle.accepted.specs.Laws.Lines.{read_so_far}

@@ -4,7 +4,7 @@ use Rattle.std.specs.Prelude.{◌≡◌, true, ◌&&◌, List, ℕ, ◌≤◌, l
 use Rattle.std.proofs.Common.{leb-true}
 use Rattle.theory.specs.Numbers.{ROLES}
 use Rattle.theory.specs.Sheet.{periodic_fits, trigger_fits}
-use Rattle.theory.specs.Laws.Tests.{and_left, and_right}
+use Rattle.theory.proofs.Laws.Tests.{and_left, and_right}
 use Rattle.tables.specs.Layout.{byte_at, periodic_at, trigger_at}
 use Rattle.periodic_frames.specs.Row.{periodic_row}
 use Rattle.trigger_frames.specs.Row.{trigger_row}

@@ -5,7 +5,7 @@ use Rattle.std.proofs.Common.{sym, ap, ◌∙◌, arith, length-take-le, get_or-
 use Rattle.std.proofs.Math.ListN.{get_or-append}
 use Rattle.std.proofs.Math.Seq.{paste, length_paste_head}
 use Rattle.theory.specs.Sheet.{Trigger, trigger_fits}
-use Rattle.theory.specs.Laws.Limits.{TriggerWithin, trigger_says}
+use Rattle.theory.proofs.Laws.Limits.{TriggerWithin, trigger_says}
 use Rattle.tables.specs.Layout.{PERIODIC_BYTES, TRIGGER_BYTES, byte_at, two, four, periodic_at, trigger_from}
 
 -- ---- bytes of a pasted row

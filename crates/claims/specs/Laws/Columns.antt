@@ -7,7 +7,7 @@ use Rattle.std.proofs.Math.Logic.{⊎_elim, by_cases}
 use Rattle.std.proofs.Math.Decide.{dec_lt, ℕ_discrete}
 use Rattle.std.proofs.Math.Dec.{leb}
 use Rattle.std.proofs.Math.ListN.{length, length-append, get_or-append}
-use Rattle.theory.specs.Laws.Tests.{test, not_both}
+use Rattle.theory.proofs.Laws.Tests.{test, not_both}
 use Rattle.theory.specs.Numbers.{LAST_INSTANT, REQUESTS}
 use Rattle.theory.specs.LoopTest.{PAIRS, loop_place}
 use Rattle.theory.specs.Sheet.{Sheet}
@@ -33,11 +33,11 @@ use Rattle.reader.specs.declared.Reading.TheVariants.{Good, Refused}
 use Rattle.reader.specs.Lines.{reads}
 use Rattle.reader.specs.Out.{ReadOutcome, read_outcome, sheet_read, out_by_loop}
 use Rattle.reader.specs.Reading.{start, by_lines, sheet_lengths_fit, reading}
-use Rattle.reader.specs.Laws.Column.{sheet_faulty}
+use Rattle.reader.proofs.Laws.Column.{sheet_faulty}
 use Rattle.line_by_line.specs.Lines.{lines_in, rest_in}
 use Rattle.line_by_line.specs.Tests.{role_count}
 use Rattle.line_by_line.specs.ComesBack.{frames_before, faulty_line, ComesBack, by_length, at_line, by_loop, accepted}
-use Rattle.line_by_line.specs.Laws.Columns.{column_says}
+use Rattle.line_by_line.proofs.Laws.Columns.{column_says}
 use Rattle.row_judge.specs.Judge.{few_rows, roles_fit, row_count, first_unfit, judge_rows}
 use Rattle.table_judge.specs.Judge.{judge_loop, judge_tables}
 use Rattle.requests.specs.Requests.{first_outside, judge_requests}
@@ -46,7 +46,7 @@ use Rattle.tape_tests.specs.declared.Heard.{Heard}
 use Rattle.tape.specs.Tape.{tape_read}
 use Rattle.tape.specs.Laws.Column.{AtInstant, tape_faulty}
 use Rattle.day_split.specs.Split.{sheet_lines, sheet_part, tape_part}
-use Rattle.day_split.specs.Laws.Lines.{both_lines_lem, sheet_count}
+use Rattle.day_split.proofs.Laws.Lines.{both_lines_lem, sheet_count}
 use Rattle.day_input.specs.Opening.{INPUT_BYTES, Opening, refused, after_tape, after_sheet, sheet_reading, opening}
 use Rattle.faulty_line.specs.Part.{has_line, tapes_end, faulty_part, both_lines}
 use Rattle.faulty_line.specs.Laws.{no_line, no_place}

@@ -8,9 +8,9 @@ use Rattle.tables.specs.declared.Counts.{Counts}
 use Rattle.theory.specs.Graph.{NoLoop, LoopAt}
 use Rattle.theory.specs.LoopTest.{PAIRS, loop_place}
 use borrow.Author.Tests.{le-leb, eq-eqb}
-use Rattle.theory.specs.Laws.Tests.{test, not_both, is_false}
-use Rattle.theory.specs.Laws.Loop.{loop_or}
-use Rattle.theory.specs.Laws.OneSolution.{good_heads}
+use Rattle.theory.proofs.Laws.Tests.{test, not_both, is_false}
+use Rattle.theory.proofs.Laws.Loop.{loop_or}
+use Rattle.theory.proofs.Laws.OneSolution.{good_heads}
 use Rattle.answers.specs.declared.Name.{Name}
 use Rattle.answers.specs.declared.Name.TheVariants.{Length, Loop}
 use Rattle.answers.specs.Answers.{answered}
@@ -22,14 +22,14 @@ use Rattle.reader.specs.Lines.{reads}
 use Rattle.reader.specs.declared.Reading.TheVariants.{Good, Refused}
 use Rattle.reader.specs.Answer.{verdict_of}
 use Rattle.reader.specs.Out.{ReadOutcome, read_outcome}
-use Rattle.reader.specs.Laws.Exact.{outcome_one}
+use Rattle.reader.proofs.Laws.Exact.{outcome_one}
 use Rattle.reader.specs.Reading.{start, by_lines, sheet_lengths_fit, reading}
-use Rattle.reader.specs.Laws.Lengths.{lengths_say}
+use Rattle.reader.proofs.Laws.Lengths.{lengths_say}
 use Rattle.line_by_line.specs.Lines.{lines_in, rest_in}
 use Rattle.line_by_line.specs.ComesBack.{RefusedAt, refusal_at, ReadsWhole, periodic_table, trigger_table, counts_of, sheet_said, LengthsFit, frames_in, ComesBack, by_length, at_line, by_loop, accepted}
-use Rattle.line_by_line.specs.Laws.Said.{said}
-use Rattle.line_by_line.specs.Laws.Lines.{Way, stops, goes_on, from_first}
-use Rattle.line_by_line.specs.Laws.One.{refused_one, whole_not}
+use Rattle.line_by_line.proofs.Laws.Said.{said}
+use Rattle.line_by_line.proofs.Laws.Lines.{Way, stops, goes_on, from_first}
+use Rattle.line_by_line.proofs.Laws.One.{refused_one, whole_not}
 use Rattle.claims.specs.Words.{ReadsInOrder}
 use Rattle.claims.specs.Laws.Numbers.{no_other, number_once}
 use Rattle.claims.specs.Laws.Reader.{reader_order, refuses_loop, accepts_none}

@@ -6,13 +6,13 @@ use Rattle.std.proofs.Math.Seq.{take-append_seam}
 use Rattle.std.proofs.lemmas.Bool.{eqb-false}
 use Rattle.theory.specs.Sheet.{Sheet}
 use Rattle.theory.specs.Model.{Stream}
-use Rattle.theory.specs.Laws.Tests.{test}
+use Rattle.theory.proofs.Laws.Tests.{test}
 use Rattle.answers.specs.declared.Refusal.{Refusal}
 use Rattle.answers.specs.declared.Verdict.{Verdict}
 use Rattle.answers.specs.declared.Verdict.TheVariants.{Pass, Refused}
 use Rattle.answers.specs.declared.Answer.{Answer}
 use Rattle.answers.specs.Answers.{number_of, answered}
-use Rattle.answers.specs.Laws.{no_pass}
+use Rattle.answers.proofs.Laws.{no_pass}
 use Rattle.day_input.specs.Opening.{Opening, opens, refused, opening}
 use Rattle.day_lines.specs.Lines.{OUTPUT_BYTES}
 use Rattle.day_print.specs.declared.Printed.{Printed}

@@ -8,9 +8,9 @@ use Rattle.std.proofs.Math.Logic.{inl, inr, ⊎_elim}
 use Rattle.theory.specs.Sheet.{GoodOrder}
 use Rattle.theory.specs.Graph.{NoLoop, LoopAt}
 use Rattle.theory.specs.LoopTest.{PAIRS, loop_place}
-use Rattle.theory.specs.Laws.Tests.{test}
-use Rattle.theory.specs.Laws.Loop.{loop_or, loop_not, loop_one}
-use Rattle.theory.specs.Laws.OneSolution.{good_heads}
+use Rattle.theory.proofs.Laws.Tests.{test}
+use Rattle.theory.proofs.Laws.Loop.{loop_or, loop_not, loop_one}
+use Rattle.theory.proofs.Laws.OneSolution.{good_heads}
 use Rattle.answers.specs.declared.Name.{Name}
 use Rattle.answers.specs.declared.Name.TheVariants.{Length, Frame, Check, Kind, Field, TooMany, Count, Loop}
 use Rattle.answers.specs.declared.Refusal.{Refusal}

@@ -27,20 +27,20 @@ use Rattle.reader.specs.Reading.{reading}
 use Rattle.accepted.specs.Laws.Accepted.{reading_good, reading_sizes, reading_passes}
 use Rattle.line_by_line.specs.Lines.{lines_in, rest_in, joined, Unbroken}
 use Rattle.line_by_line.specs.ComesBack.{frames_of, frames_in, LengthsFit, ReadsWhole, periodic_table, trigger_table, counts_of, sheet_said, ComesBack, by_length, at_line, by_loop, accepted}
-use Rattle.line_by_line.specs.Laws.Cut.{lines_are}
+use Rattle.line_by_line.proofs.Laws.Cut.{lines_are}
 use Rattle.writer.specs.declared.Sent.{Sent}
 use Rattle.writer.specs.Outcome.{Writes, AtFront, WriteOutcome}
-use Rattle.writer.specs.Laws.Exact.{Passes, passes_say, passes_so, passes_good}
-use Rattle.writer.specs.Laws.Writes.{made, made_writes, writes_one}
-use Rattle.writer.specs.Laws.Room.{LONGEST}
+use Rattle.writer.proofs.Laws.Exact.{Passes, passes_say, passes_so, passes_good}
+use Rattle.writer.proofs.Laws.Writes.{made, made_writes, writes_one}
+use Rattle.writer.proofs.Laws.Room.{LONGEST}
 use Rattle.round_trips.specs.Order.{in_table_order, PeriodicsFirst, OnlyItsRows}
-use Rattle.round_trips.specs.Laws.Lengths.{writes_short, framed_unbroken, front_stays}
-use Rattle.round_trips.specs.Laws.Reads.{each_framed, handed, written_in_order, written_whole, written_rows, written_same, written_loopless}
-use Rattle.round_trips.specs.Laws.Writes.{whole_writes, whole_in_order}
-use Rattle.round_trips.specs.Laws.Complete.{said, said_periodic_bytes, said_trigger_bytes, said_lengths, said_same, said_good, said_loopless, used_on}
+use Rattle.round_trips.proofs.Laws.Lengths.{writes_short, framed_unbroken, front_stays}
+use Rattle.round_trips.proofs.Laws.Reads.{each_framed, handed, written_in_order, written_whole, written_rows, written_same, written_loopless}
+use Rattle.round_trips.proofs.Laws.Writes.{whole_writes, whole_in_order}
+use Rattle.round_trips.proofs.Laws.Complete.{said, said_periodic_bytes, said_trigger_bytes, said_lengths, said_same, said_good, said_loopless, used_on}
 use Rattle.frames.specs.Frame.{value}
 use Rattle.day_split.specs.Split.{begins_end, up_to_end, byte_count, sheet_bytes, sheet_part, tape_part}
-use Rattle.day_split.specs.Laws.Parts.{sheet_bytes_le}
+use Rattle.day_split.proofs.Laws.Parts.{sheet_bytes_le}
 use Rattle.day_input.specs.Opening.{INPUT_BYTES, sheet_reading}
 use Rattle.resend.specs.declared.Resent.{Resent}
 use Rattle.resend.specs.Resend.{sent_of, unsent, ByAnswer, ResendOutcome}

@@ -10,7 +10,7 @@ use Rattle.theory.specs.Below.{any_below, all_below, count_below}
 use Rattle.theory.specs.Events.{Events, Roles, enable, disable, conf, blocks, blocked, nonblocked}
 use Rattle.theory.specs.Instant.{Requests, request_fits}
 use Rattle.theory.specs.Box.{State, Step, SameState}
-use Rattle.theory.specs.Laws.Below.{all_elim}
+use Rattle.theory.proofs.Laws.Below.{all_elim}
 use Rattle.answers.specs.declared.Verdict.{Verdict}
 use Rattle.answers.specs.declared.Verdict.TheVariants.{Pass}
 use Rattle.tables.specs.Buffers.{roles_of, events_of, waiting_of, Narrow}
@@ -21,13 +21,13 @@ use Rattle.requests.specs.Requests.{fits, AllFit}
 use Rattle.accepted.specs.Laws.Accepted.{reading_good, reading_sizes}
 use Rattle.tables.specs.Lent.{Rules, sheet_in, Lent, lent, state_in}
 use Rattle.step.specs.Outcome.{judge_step, Outcome}
-use Rattle.step.specs.Laws.Used.{rules_itself}
+use Rattle.step.proofs.Laws.Used.{rules_itself}
 use Rattle.runs.specs.Runs.{FreshLent, HandedOn, Steps}
-use Rattle.runs.specs.Laws.{under_sheet}
+use Rattle.runs.proofs.Laws.{under_sheet}
 use Rattle.examples.specs.Written.{◌∶◌, Prioritized, among, first, stream_of, roles_in, rows_in, state_of}
 use Rattle.examples.specs.Day.{Worked}
 use Rattle.examples.specs.Table.{input}
-use Rattle.examples.specs.Laws.Said.{all_say}
+use Rattle.examples.proofs.Laws.Said.{all_say}
 use Rattle.claims.specs.Words.{count_in, no_periodics, no_triggers, worked_sheet, worked, asked}
 use Rattle.claims.specs.Laws.Step.{step_passes_says}
 use Rattle.claims.specs.Laws.There.{step_total}
@@ -188,6 +188,6 @@ minutes_run =
         fresh = record { instant = refl; roles = refl; waiting = refl };
         one_sheet = λ t l. rules_itself worked;
         ok = two (λ t. Outcome worked (asked t) (at (quiet 0) (quiet 1) t) Pass (at x.0 y.0 t)) x.1 y.1;
-        on = λ t. elim t [ zero ↦ λ l. on | suc u ↦ λ l. absurd (omega (arith, l)) ];
+        on = λ t. elim t as (λ k. suc k < 2 → HandedOn (at x.0 y.0 k) (at (quiet 0) (quiet 1) (suc k))) [ zero ↦ λ l. on | suc u ↦ λ l. absurd (omega (arith, l)) ];
       },
     )

@@ -9,7 +9,7 @@ use borrow.Author.Tests.{leb-true, le-leb, eq-eqb}
 use Rattle.theory.specs.Numbers.{LAST_INSTANT, REQUESTS}
 use Rattle.theory.specs.Sheet.{GoodOrder}
 use Rattle.theory.specs.Graph.{NoLoop, LoopAt}
-use Rattle.theory.specs.Laws.Tests.{test}
+use Rattle.theory.proofs.Laws.Tests.{test}
 use Rattle.answers.specs.declared.Name.{Name}
 use Rattle.answers.specs.declared.Name.TheVariants.{Length, TooMany, Loop, Last}
 use Rattle.answers.specs.declared.Verdict.{Verdict}
@@ -19,12 +19,12 @@ use Rattle.tables.specs.Asked.{Asked}
 use Rattle.table_judge.specs.Judge.{judge_tables}
 use Rattle.tables.specs.Lent.{Rules, sheet_in, Lent}
 use Rattle.table_judge.specs.Says.{Says}
-use Rattle.table_judge.specs.Laws.{judge_says, judge_passes, judge_refuses_not, judge_finds}
+use Rattle.table_judge.proofs.Laws.{judge_says, judge_passes, judge_refuses_not, judge_finds}
 use Rattle.step_tests.specs.Order.{exact_lengths}
 use Rattle.requests.specs.Requests.{first_outside, judge_requests, AllFit}
 use Rattle.requests.specs.Laws.{requests_pass, requests_fit}
 use Rattle.step.specs.Outcome.{lengths_fit, judge_step, Outcome}
-use Rattle.step.specs.Laws.Passes.{StepAccepted, Lengths, lengths_say, step_passes, step_accepts}
+use Rattle.step.proofs.Laws.Passes.{StepAccepted, Lengths, lengths_say, step_passes, step_accepts}
 use Rattle.claims.specs.Words.{Ordered}
 use Rattle.claims.specs.Laws.Numbers.{answered_once}
 

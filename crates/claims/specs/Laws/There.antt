@@ -8,25 +8,25 @@ use Rattle.theory.specs.Numbers.{ROLES}
 use Rattle.theory.specs.Below.{ExactlyOne}
 use Rattle.theory.specs.Sheet.{GoodOrder}
 use Rattle.theory.specs.Graph.{NoLoop}
-use Rattle.theory.specs.Laws.Tests.{test}
+use Rattle.theory.proofs.Laws.Tests.{test}
 use Rattle.answers.specs.declared.Name.TheVariants.{Length}
 use Rattle.answers.specs.declared.Refusal.{Refusal}
 use Rattle.answers.specs.declared.Verdict.{Verdict}
 use Rattle.answers.specs.declared.Verdict.TheVariants.{Pass, Refused}
-use Rattle.answers.specs.Laws.{verdict_cases, no_pass}
+use Rattle.answers.proofs.Laws.{verdict_cases, no_pass}
 use Rattle.tables.specs.Buffers.{roles_of, events_of, Narrow}
 use Rattle.tables.specs.Asked.{Asked}
 use Rattle.roles_after.specs.After.{roles_below}
 use Rattle.roles_after.specs.Laws.{roles_are}
 use Rattle.tables.specs.Lent.{Rules, rules, sheet_in, Lent, lent}
-use Rattle.table_judge.specs.Laws.{judge_passes}
+use Rattle.table_judge.proofs.Laws.{judge_passes}
 use Rattle.requests.specs.Requests.{AllFit}
 use Rattle.requests.specs.Laws.{requests_pass}
 use Rattle.instant.specs.Acted.{refilled}
 use Rattle.step.specs.Outcome.{judge_step, Stepped, Outcome}
-use Rattle.step.specs.Laws.Exact.{step_exact, one_buffer_served}
-use Rattle.step.specs.Laws.Buffers.{rows_size, rows_are}
-use Rattle.step.specs.Laws.Passes.{StepAccepted, step_passes}
+use Rattle.step.proofs.Laws.Exact.{step_exact, one_buffer_served}
+use Rattle.step.proofs.Laws.Buffers.{rows_size, rows_are}
+use Rattle.step.proofs.Laws.Passes.{StepAccepted, step_passes}
 use Rattle.day_input.specs.declared.Plan.{Plan}
 use Rattle.day_input.specs.declared.Opened.{Opened}
 use Rattle.day_input.specs.declared.Opened.TheVariants.{Opens, Refused}

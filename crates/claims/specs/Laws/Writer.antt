@@ -15,8 +15,8 @@ use Rattle.theory.specs.Numbers.{ROLES, EVENTS, LAST_INSTANT, PERIODIC_ROWS, TRI
 use Rattle.theory.specs.Below.{ExactlyOne}
 use Rattle.theory.specs.Sheet.{Sheet, GoodOrder}
 use Rattle.theory.specs.Graph.{NoLoop, LoopAt}
-use Rattle.theory.specs.Laws.Tests.{test, and_left, and_right, and_both, not_both, is_false}
-use Rattle.theory.specs.Laws.First.{first_is}
+use Rattle.theory.proofs.Laws.Tests.{test, and_left, and_right, and_both, not_both, is_false}
+use Rattle.theory.proofs.Laws.First.{first_is}
 use Rattle.answers.specs.declared.Name.{Name}
 use Rattle.answers.specs.declared.Name.TheVariants.{Length, Frame, Check, Kind, Field, TooMany, Count, Loop, Request, Last}
 use Rattle.answers.specs.declared.Answer.{Answer}
@@ -24,7 +24,7 @@ use Rattle.answers.specs.declared.Refusal.{Refusal}
 use Rattle.answers.specs.declared.Verdict.{Verdict}
 use Rattle.answers.specs.declared.Verdict.TheVariants.{Pass, Refused}
 use Rattle.answers.specs.Answers.{answered, refusal, refuse, and_then}
-use Rattle.answers.specs.Laws.{verdict_cases}
+use Rattle.answers.proofs.Laws.{verdict_cases}
 use Rattle.tables.specs.declared.Counts.{Counts}
 use Rattle.tables.specs.Layout.{PERIODIC_BYTES, TRIGGER_BYTES, PERIODIC_TABLE, TRIGGER_TABLE, byte_at, trigger_from, trigger_at}
 use Rattle.tables.specs.Used.{UsedByte, SameRules}
@@ -33,21 +33,21 @@ use Rattle.tables.specs.Asked.{Asked}
 use Rattle.tables.specs.Lent.{Rules, sheet_in, Lent}
 use Rattle.table_judge.specs.Judge.{judge_tables}
 use Rattle.row_judge.specs.Judge.{few_rows, roles_fit, row_count, row_fits, first_unfit, judge_rows}
-use Rattle.row_judge.specs.Laws.{limits_say, rows_many, rows_roles, rows_unfit}
+use Rattle.row_judge.proofs.Laws.{limits_say, rows_many, rows_roles, rows_unfit}
 use Rattle.table_judge.specs.Says.{FewRows, RolesFit, UnfitAt, RefusalSays, Says}
-use Rattle.table_judge.specs.Laws.{judge_says, judge_refuses_not, judge_finds}
-use Rattle.table_judge.specs.Laws.Answer.{tables_refused}
+use Rattle.table_judge.proofs.Laws.{judge_says, judge_refuses_not, judge_finds}
+use Rattle.table_judge.proofs.Laws.Answer.{tables_refused}
 use Rattle.line_by_line.specs.Lines.{joined}
 use Rattle.writer.specs.declared.Sent.{Sent}
 use Rattle.writer.specs.Outcome.{Writes, write_lengths_fit, judge_writing, unwritten, WriteOutcome}
 use Rattle.requests.specs.Requests.{first_outside, judge_requests}
 use Rattle.step_tests.specs.Order.{exact_lengths}
 use Rattle.step.specs.Outcome.{lengths_fit, judge_step, Outcome}
-use Rattle.step.specs.Laws.Used.{tables_used}
+use Rattle.step.proofs.Laws.Used.{tables_used}
 use Rattle.writer.specs.RowLines.{HeaderLine, PeriodicLine, TriggerLine, EndLine}
-use Rattle.writer.specs.Laws.Exact.{passes_say, passes_good, write_exact}
-use Rattle.round_trips.specs.Laws.Lengths.{front_stays}
-use Rattle.writer.specs.Laws.Writes.{made, made_writes}
+use Rattle.writer.proofs.Laws.Exact.{passes_say, passes_good, write_exact}
+use Rattle.round_trips.proofs.Laws.Lengths.{front_stays}
+use Rattle.writer.proofs.Laws.Writes.{made, made_writes}
 use Rattle.claims.specs.Words.{WriteLengths}
 use Rattle.claims.specs.Laws.Numbers.{answered_once}
 

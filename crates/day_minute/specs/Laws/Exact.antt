@@ -2,10 +2,10 @@
 -- Assumes nothing.
 use Rattle.std.specs.Prelude.{◌≡◌, List, ℕ}
 use Rattle.std.proofs.Common.{sym, ap, ◌∙◌}
-use Rattle.theory.specs.Laws.Exact.{exact}
+use Rattle.theory.proofs.Laws.Exact.{exact}
 use Rattle.tables.specs.Asked.{flat}
 use Rattle.tables.specs.Lent.{Rules, Lent}
-use Rattle.step.specs.Laws.Exact.{step_exact}
+use Rattle.step.proofs.Laws.Exact.{step_exact}
 use Rattle.day_minute.specs.declared.Minute.{Minute}
 use Rattle.day_minute.specs.Minute.{batch_at, MinuteOutcome}
 

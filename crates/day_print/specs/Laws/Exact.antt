@@ -4,8 +4,8 @@ use Rattle.std.specs.Prelude.{◌≡◌, refl, true, false, List, ◌++◌, ℕ,
 use Rattle.std.proofs.Common.{sym, ap, ◌∙◌, subst, ⊎_elim, eqb-true}
 use Rattle.std.proofs.lemmas.Bool.{eqb-false}
 use Rattle.theory.specs.Model.{Trace}
-use Rattle.theory.specs.Laws.Tests.{test}
-use Rattle.theory.specs.Laws.Exact.{exact}
+use Rattle.theory.proofs.Laws.Tests.{test}
+use Rattle.theory.proofs.Laws.Exact.{exact}
 use Rattle.tables.specs.Lent.{rules}
 use Rattle.day_input.specs.declared.Plan.{Plan}
 use Rattle.day_input.specs.declared.Opened.{Opened}

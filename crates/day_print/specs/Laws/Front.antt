@@ -9,7 +9,7 @@ use Rattle.day_input.specs.Planned.{opening_of}
 use Rattle.day_run.specs.Laws.Model.{one_model}
 use Rattle.day_lines.specs.Lines.{minute_lines, LINE}
 use Rattle.day_lines.specs.Written.{Written}
-use Rattle.day_lines.specs.Laws.Lines.{lines_size, lines_front}
+use Rattle.day_lines.proofs.Laws.Lines.{lines_size, lines_front}
 use Rattle.day_print.specs.Day.{AfterOpening}
 use Rattle.day_print.specs.Ready.{Ready}
 

@@ -9,8 +9,8 @@ use Rattle.std.proofs.Math.Dec.{eqb}
 use Rattle.theory.specs.Numbers.{REQUESTS}
 use Rattle.theory.specs.Below.{any_below}
 use Rattle.theory.specs.Sheet.{is}
-use Rattle.theory.specs.Laws.Tests.{and_left, and_right, and_both, test, is_false, not_both, same_or, or_turned}
-use Rattle.theory.specs.Laws.Below.{below_cases, any_same}
+use Rattle.theory.proofs.Laws.Tests.{and_left, and_right, and_both, test, is_false, not_both, same_or, or_turned}
+use Rattle.theory.proofs.Laws.Below.{below_cases, any_same}
 use Rattle.text.specs.Lines.{Lines, none, endless, line}
 use Rattle.frames.specs.Frame.{bytes_of}
 use Rattle.tables.specs.Asked.{Request, request_at, flat, asks}

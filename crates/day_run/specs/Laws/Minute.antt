@@ -9,7 +9,7 @@ use Rattle.theory.specs.Events.{Events}
 use Rattle.theory.specs.Instant.{Requests}
 use Rattle.theory.specs.Model.{Trace}
 use Rattle.theory.specs.Box.{State, Step, SameState}
-use Rattle.theory.specs.Laws.Run.{step_same}
+use Rattle.theory.proofs.Laws.Run.{step_same}
 use Rattle.answers.specs.declared.Verdict.TheVariants.{Pass}
 use Rattle.text.specs.Lines.{Lines, lines}
 use Rattle.tables.specs.Buffers.{roles_of, events_of}
@@ -19,7 +19,7 @@ use Rattle.masks.specs.Laws.Bits.{bit_none}
 use Rattle.masks.specs.Laws.Held.{waiting_none}
 use Rattle.requests.specs.Laws.{requests_fit}
 use Rattle.step.specs.Outcome.{Stepped}
-use Rattle.step.specs.Laws.Passes.{step_accepts}
+use Rattle.step.proofs.Laws.Passes.{step_accepts}
 use Rattle.tape.specs.Tape.{asks_in}
 use Rattle.tape_batches.specs.Batch.{takes, rest, none_yet}
 use Rattle.day_minute.specs.declared.Minute.{Minute}

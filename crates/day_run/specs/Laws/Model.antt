@@ -8,11 +8,11 @@ use Rattle.theory.specs.Sheet.{GoodOrder}
 use Rattle.theory.specs.Graph.{NoLoop}
 use Rattle.theory.specs.Model.{Stream, Trace, no_roles}
 use Rattle.theory.specs.Box.{State, Within, Follows}
-use Rattle.theory.specs.Laws.Run.{exactly_one_model, run_exists, canonical_run}
+use Rattle.theory.proofs.Laws.Run.{exactly_one_model, run_exists, canonical_run}
 use Rattle.text.specs.Lines.{lines}
 use Rattle.tables.specs.Layout.{sheet_of}
 use Rattle.tables.specs.Lent.{Rules, sheet_in}
-use Rattle.table_judge.specs.Laws.{judge_passes}
+use Rattle.table_judge.proofs.Laws.{judge_passes}
 use Rattle.tape.specs.Tape.{asks_in}
 use Rattle.tape.specs.Laws.Fine.{fine_within}
 use Rattle.day_run.specs.Run.{GoodInput, RunOf, ModelOf}

@@ -5,7 +5,7 @@ use Rattle.std.proofs.Math.Path.{refl, sym, ap, subst}
 use Rattle.std.proofs.Common.{◌∙◌, arith}
 use Rattle.std.proofs.Math.Logic.{⊎_elim}
 use Rattle.std.proofs.Math.Dec.{leb}
-use Rattle.theory.specs.Laws.Tests.{test}
+use Rattle.theory.proofs.Laws.Tests.{test}
 use Rattle.answers.specs.declared.Name.TheVariants.{Length}
 use Rattle.answers.specs.declared.Refusal.{Refusal}
 use Rattle.answers.specs.Answers.{refusal}
@@ -18,7 +18,7 @@ use Rattle.reader.specs.declared.Reading.{Reading}
 use Rattle.reader.specs.declared.Reading.TheVariants.{Good, Refused}
 use Rattle.reader.specs.Out.{ReadOutcome, read_outcome}
 use Rattle.day_split.specs.Split.{sheet_bytes, sheet_lines, sheet_part, tape_part}
-use Rattle.day_split.specs.Laws.Parts.{sheet_bytes_le}
+use Rattle.day_split.proofs.Laws.Parts.{sheet_bytes_le}
 use Rattle.tape_tests.specs.declared.Heard.{Heard}
 use Rattle.tape_tests.specs.Tests.{LONGEST_DAY}
 use Rattle.tape.specs.Tape.{tape_read, unheard}

@@ -4,8 +4,8 @@ use Rattle.std.specs.Prelude.{◌≡◌, refl, Bool, true, false, cond, ◌&&◌
 use Rattle.std.proofs.Common.{ap, ⊎_elim, arith, drop_of_length-le, leb-true, eqb-true, ne_eqb}
 use Rattle.std.proofs.Math.ListN.{get_or-eq_default}
 use Rattle.theory.specs.Below.{all_below}
-use Rattle.theory.specs.Laws.Below.{all_elim}
-use Rattle.theory.specs.Laws.Tests.{test}
+use Rattle.theory.proofs.Laws.Below.{all_elim}
+use Rattle.theory.proofs.Laws.Tests.{test}
 use Rattle.text.specs.Laws.Lines.{here}
 use Rattle.frames.specs.Frame.{value, bytes_of, sum}
 

@@ -6,7 +6,7 @@ use Rattle.std.proofs.Common.{sym, ap, ◌∙◌}
 use Rattle.theory.specs.Numbers.{ROLES, EVENTS}
 use Rattle.theory.specs.Sheet.{GoodOrder}
 use Rattle.theory.specs.Graph.{Levels}
-use Rattle.theory.specs.Laws.Exact.{exact}
+use Rattle.theory.proofs.Laws.Exact.{exact}
 use Rattle.tables.specs.Layout.{byte_at, sheet_of}
 use Rattle.tables.specs.Buffers.{roles_of, events_of}
 use Rattle.tables.specs.Asked.{Asked}

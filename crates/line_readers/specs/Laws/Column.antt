@@ -8,14 +8,14 @@ use mathlib.Core.List.{List, [], ◌∷◌}
 use Prim.Native.Nat.{ℕ, suc, ◌+◌, ◌-◌, ◌%◌, ◌≤◌, ◌<◌}
 use Rattle.std.proofs.Math.Decide.{dec_lt}
 use Rattle.std.proofs.lemmas.Bool.{lt-leb, eqb-false}
-use Rattle.theory.specs.Laws.Tests.{test, not_both}
+use Rattle.theory.proofs.Laws.Tests.{test, not_both}
 use Rattle.answers.specs.declared.Name.{Name}
 use Rattle.answers.specs.declared.Name.TheVariants.{Length, Frame, Check, Kind, Field, TooMany, Count, Loop, Request, Last}
 use Rattle.answers.specs.declared.Refusal.{Refusal}
 use Rattle.answers.specs.declared.Verdict.{Verdict}
 use Rattle.answers.specs.declared.Verdict.TheVariants.{Pass, Refused}
 use Rattle.answers.specs.Answers.{refusal}
-use Rattle.answers.specs.Laws.{no_pass, refused_same}
+use Rattle.answers.proofs.Laws.{no_pass, refused_same}
 use Rattle.text.specs.Lines.{Lines, none, endless, line, all_lines}
 use Rattle.text.specs.Framed.{is_digit, first_bad, all_digits, framed, frame_column}
 use Rattle.text.specs.Laws.Framed.{first_bad_le, bad_before, bad_is}

@@ -3,7 +3,7 @@
 use Rattle.std.specs.Prelude.{◌≡◌, true, ℕ}
 use Rattle.answers.specs.declared.Name.{Name}
 use Rattle.answers.specs.declared.Verdict.TheVariants.{Pass}
-use Rattle.answers.specs.Laws.{cond_pass}
+use Rattle.answers.proofs.Laws.{cond_pass}
 use Rattle.line_readers.specs.declared.Tests.{Tests}
 use Rattle.line_readers.specs.Order.{in_order}
 

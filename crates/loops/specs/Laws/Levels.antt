@@ -8,7 +8,7 @@ use Rattle.std.proofs.lemmas.List.{length-replicate, get_or-replicate}
 use Rattle.std.proofs.Math.ListN.{get_or-eq_default}
 use Rattle.theory.specs.Numbers.{EVENTS}
 use Rattle.theory.specs.Below.{one, count_below}
-use Rattle.theory.specs.Laws.Below.{below_cases, count_le, count_none, count_next}
+use Rattle.theory.proofs.Laws.Below.{below_cases, count_le, count_none, count_next}
 use Rattle.reach_row.specs.Row.{Row, reaches}
 use Rattle.reach_rows.specs.Rows.{edges_of}
 use Rattle.reach_rows.specs.Laws.Rows.{edge_row}

@@ -8,9 +8,9 @@ use Rattle.theory.specs.Events.{conf}
 use Rattle.theory.specs.Sheet.{Sheet}
 use Rattle.theory.specs.Graph.{NoLoop, pair_place, LoopAt, Levels}
 use Rattle.theory.specs.LoopTest.{PAIRS, loop_place, level_of}
-use Rattle.theory.specs.Laws.Graph.{HeadsBelow, drawn_intro, drawn_from}
-use Rattle.theory.specs.Laws.Levels.{noloop_levels}
-use Rattle.theory.specs.Laws.Loop.{loop_or, noloop_says, loop_says}
+use Rattle.theory.proofs.Laws.Graph.{HeadsBelow, drawn_intro, drawn_from}
+use Rattle.theory.proofs.Laws.Levels.{noloop_levels}
+use Rattle.theory.proofs.Laws.Loop.{loop_or, noloop_says, loop_says}
 use Rattle.tables.specs.Layout.{byte_at}
 use Rattle.loops.specs.declared.Found.TheVariants.{At, Nothing}
 use Rattle.loops.specs.declared.Tested.{Tested}

@@ -8,7 +8,7 @@ use Rattle.theory.specs.Numbers.{EVENTS}
 use Rattle.theory.specs.Below.{first_below}
 use Rattle.theory.specs.Graph.{Edges, pair_place}
 use Rattle.theory.specs.LoopTest.{PAIRS}
-use Rattle.theory.specs.Laws.First.{first_is, first_none}
+use Rattle.theory.proofs.Laws.First.{first_is, first_none}
 use Rattle.loops.specs.declared.Found.TheVariants.{At, Nothing}
 use Rattle.loops.specs.Tested.{found_at, cycle_at}
 

@@ -11,7 +11,7 @@ use Rattle.theory.specs.Below.{count_below, first_below}
 use Rattle.theory.specs.Sheet.{Sheet}
 use Rattle.theory.specs.Graph.{node, plus, minus, edge}
 use Rattle.theory.specs.LoopTest.{through, reach, PAIRS, loop_place, level_of}
-use Rattle.theory.specs.Laws.First.{first_same}
+use Rattle.theory.proofs.Laws.First.{first_same}
 use Rattle.tables.specs.Layout.{triggers_of}
 use Rattle.reach_row.specs.Row.{Row, RowIs}
 use Rattle.reach_rows.specs.Rows.{edges_of, RowsAre, Become}

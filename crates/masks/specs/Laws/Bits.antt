@@ -8,7 +8,7 @@ use Rattle.std.proofs.Math.Dec.{eqb-zero-suc, eqb-suc-zero, eqb-suc-suc}
 use Rattle.std.specs.Int.Bits.{bit_or, or_step}
 use Rattle.std.proofs.lemmas.Nat.{or_shr}
 use Rattle.theory.specs.Below.{one}
-use Rattle.theory.specs.Laws.Tests.{is_false}
+use Rattle.theory.proofs.Laws.Tests.{is_false}
 use Rattle.tables.specs.Buffers.{bit}
 
 two_pos : 0 < 2
@@ -107,7 +107,7 @@ bits_of (suc k) f h =
     let low : n % 2 ≡ one (f 0) = omega (arith, d.0) in
     let high : n / 2 ≡ r.0 = omega (arith, d.0) in
     let says : (p : ℕ) → bit n p ≡ f p
-    = λ p. elim p [
+    = λ p. elim p as (λ q. bit n q ≡ f q) [
       | zero ↦ bit_zero n ∙ ap (λ (x : ℕ). eqb x 1) low ∙ d.1
       | suc q ↦ bit_suc n q ∙ ap (λ (x : ℕ). bit x q) high ∙ r.2 q
     ] in

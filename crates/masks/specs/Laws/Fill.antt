@@ -7,7 +7,7 @@ use Rattle.std.proofs.lemmas.Bool.{false≢true}
 use Rattle.theory.specs.Numbers.{EVENTS, PRIORITIES, WAITING_ROWS, WAITING_NUMBERS}
 use Rattle.theory.specs.Below.{any_below}
 use Rattle.theory.specs.Sheet.{is}
-use Rattle.theory.specs.Laws.Tests.{test}
+use Rattle.theory.proofs.Laws.Tests.{test}
 use Rattle.tables.specs.Buffers.{events_of, waiting_of}
 use Rattle.masks.specs.Masks.{joined_at}
 use Rattle.masks.specs.Joins.{Entry, joins}

@@ -5,8 +5,8 @@ use Rattle.std.proofs.Common.{sym, ap, ◌∙◌, ⊎_elim, pow-suc, arith, pow_
 use Rattle.std.proofs.lemmas.List.{get_or-replicate}
 use Rattle.theory.specs.Numbers.{EVENTS, PRIORITIES, WAITING_ROWS, WAITING_NUMBERS}
 use Rattle.theory.specs.Events.{Events}
-use Rattle.theory.specs.Laws.Tests.{test, is_false}
-use Rattle.theory.specs.Laws.OneSolution.{InBuffer}
+use Rattle.theory.proofs.Laws.Tests.{test, is_false}
+use Rattle.theory.proofs.Laws.OneSolution.{InBuffer}
 use Rattle.tables.specs.Buffers.{bit, roles_of, events_of, waiting_of, Narrow}
 use Rattle.masks.specs.Laws.Bits.{bit_none, bit_ext, bits_of}
 
@@ -62,7 +62,7 @@ numbers_of : (n : ℕ) (f : ℕ → ℕ) → (l : List ℕ) × (length l ≡ n) 
 numbers_of zero f = ([], refl, λ i l. absurd (omega arith))
 numbers_of (suc n) f =
     let r = numbers_of n (λ i. f (suc i)) in
-    (f 0 ∷ r.0, ap suc r.1, λ i. elim i [ zero ↦ λ l. refl | suc j ↦ λ l. r.2 j (omega arith) ])
+    (f 0 ∷ r.0, ap suc r.1, λ i. elim i as (λ k. k < suc n → get_or (f 0 ∷ r.0) k 0 ≡ f k) [ zero ↦ λ l. refl | suc j ↦ λ l. r.2 j (omega arith) ])
 
 -- every set of events that fits is held by a buffer (by `events_one`, by exactly one)
 pub buffer_of : (S : Events) → InBuffer S → (l : List ℕ) × (length l ≡ EVENTS) × Narrow 16 l × ((e p : ℕ) → events_of l e p ≡ S e p)

@@ -7,7 +7,7 @@ use Rattle.std.specs.Int.Bits.{bit_or}
 use Rattle.std.proofs.lemmas.Bool.{eqb-false}
 use Rattle.theory.specs.Numbers.{EVENTS, PRIORITIES, WAITING_ROWS, WAITING_NUMBERS}
 use Rattle.theory.specs.Sheet.{is}
-use Rattle.theory.specs.Laws.Tests.{and_left, and_right, and_both, test, bool_ext}
+use Rattle.theory.proofs.Laws.Tests.{and_left, and_right, and_both, test, bool_ext}
 use Rattle.tables.specs.Buffers.{bit, events_of, waiting_of}
 use Rattle.masks.specs.Masks.{with_priority, joined_at}
 use Rattle.masks.specs.Laws.Bits.{bit_or_lem, bit_pow}

@@ -2,7 +2,7 @@
 -- Assumes nothing.
 use Rattle.std.specs.Prelude.{◌≡◌, refl, List, ℕ, zero, suc, ◌+◌, ◌≤◌, ◌<◌, length, get_or, set}
 use Rattle.std.proofs.Common.{◌∙◌, add-one, arith, length-set, get_or-set_same, get_or-set_other, ⊎_elim}
-use Rattle.theory.specs.Laws.Below.{below_cases}
+use Rattle.theory.proofs.Laws.Below.{below_cases}
 use Rattle.masks.specs.Joins.{Entry, joined_where, joins, writes}
 
 -- ---- entries that join

@@ -17,8 +17,8 @@ use borrow.Author.Tests.{ltb-true, lt-ltb, le-ltb, leb-true, le-leb, eq-eqb, ne_
 use Rattle.theory.specs.Numbers.{EVENTS, PRIORITIES}
 use Rattle.theory.specs.Below.{any_below}
 use Rattle.theory.specs.Events.{odd, conf, blocks, blocked, nonblocked}
-use Rattle.theory.specs.Laws.Tests.{and_left, and_right, and_both, test, not_both, fails_not, is_false, bool_ext}
-use Rattle.theory.specs.Laws.Below.{any_intro, any_elim}
+use Rattle.theory.proofs.Laws.Tests.{and_left, and_right, and_both, test, not_both, fails_not, is_false, bool_ext}
+use Rattle.theory.proofs.Laws.Below.{any_intro, any_elim}
 use Rattle.tables.specs.Buffers.{bit, events_of}
 use Rattle.masks.specs.Masks.{alive_in}
 use Rattle.masks.specs.Laws.Bits.{bit_high}

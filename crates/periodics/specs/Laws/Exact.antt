@@ -1,7 +1,7 @@
 -- The contract of this crate's public function leaves one possible answer: any two that it allows are equal.
 -- Assumes nothing.
 use Rattle.std.specs.Prelude.{◌≡◌, List, ℕ}
-use Rattle.theory.specs.Laws.Exact.{exact}
+use Rattle.theory.proofs.Laws.Exact.{exact}
 use Rattle.tables.specs.Layout.{periodic_at}
 use Rattle.periodics.specs.declared.PeriodicRow.{PeriodicRow}
 use Rattle.periodics.specs.Rows.{periodic_of}

@@ -5,7 +5,7 @@ use Rattle.std.proofs.Common.{ap, ◌∙◌, arith}
 use Rattle.std.proofs.Math.Seq.{paste}
 use Rattle.answers.specs.declared.Refusal.{Refusal}
 use Rattle.answers.specs.Answers.{number_of}
-use Rattle.tables.specs.Laws.{paste_all}
+use Rattle.tables.proofs.Laws.{paste_all}
 use Rattle.prints.specs.Print.{line_of}
 use Rattle.prints.specs.Laws.Lengths.{length_line}
 use Rattle.printed_frames.specs.Frames.{refusal_frame, refusal_line}

@@ -6,8 +6,8 @@ use Rattle.std.proofs.Math.Logic.{by_cases}
 use Rattle.std.proofs.Math.Decide.{dec_lt}
 use Rattle.std.proofs.lemmas.Bool.{lt-leb}
 use Rattle.theory.specs.Below.{all_below}
-use Rattle.theory.specs.Laws.Below.{all_elim}
-use Rattle.theory.specs.Laws.Tests.{test, not_both}
+use Rattle.theory.proofs.Laws.Below.{all_elim}
+use Rattle.theory.proofs.Laws.Tests.{test, not_both}
 use Rattle.text.specs.Framed.{is_digit, first_bad, all_digits, framed}
 use Rattle.frames.specs.Frame.{value, bytes_of}
 use Rattle.frames.specs.Laws.Frame.{value_small}

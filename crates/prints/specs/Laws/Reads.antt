@@ -5,7 +5,7 @@ use Rattle.std.specs.Prelude.{◌≡◌, refl, true, false, not, List, [], ◌�
 use Rattle.std.proofs.Common.{ap, ap₂, ◌∙◌, append_assoc, arith, eq-eqb, ne_eqb, eqb-true}
 use Rattle.std.proofs.lemmas.Bool.{not-true}
 use Rattle.theory.specs.Below.{all_below}
-use Rattle.theory.specs.Laws.Below.{all_elim}
+use Rattle.theory.proofs.Laws.Below.{all_elim}
 use Rattle.text.specs.Lines.{LINE_END, line, lines}
 use Rattle.text.specs.Framed.{is_digit, first_bad, framed}
 use Rattle.frames.specs.Frame.{value, bytes_of, sum, checked}

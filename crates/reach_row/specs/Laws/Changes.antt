@@ -6,7 +6,7 @@ use Rattle.std.proofs.Math.Logic.{by_cases}
 use Rattle.std.proofs.Math.Bool.{or-false}
 use Rattle.std.proofs.Math.Decide.{ℕ_discrete}
 use Rattle.theory.specs.Numbers.{EVENTS}
-use Rattle.theory.specs.Laws.Tests.{test, same_or}
+use Rattle.theory.proofs.Laws.Tests.{test, same_or}
 
 -- no event is a number from 128 on
 pub past_event : (b x : ℕ) → x < EVENTS → EVENTS ≤ b → eqb b x ≡ false

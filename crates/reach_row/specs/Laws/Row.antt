@@ -10,8 +10,8 @@ use Rattle.std.proofs.Math.Decide.{ℕ_discrete}
 use Rattle.std.proofs.lemmas.List.{length-replicate, get_or-replicate}
 use Rattle.theory.specs.Numbers.{EVENTS}
 use Rattle.theory.specs.Below.{any_below}
-use Rattle.theory.specs.Laws.Below.{any_intro}
-use Rattle.theory.specs.Laws.Tests.{is_false, same_or}
+use Rattle.theory.proofs.Laws.Below.{any_intro}
+use Rattle.theory.proofs.Laws.Tests.{is_false, same_or}
 use Rattle.reach_row.specs.Row.{Row, reaches, RowIs}
 use Rattle.reach_row.specs.Laws.Changes.{past_event, not_yet, one_more, all_made}
 

@@ -9,7 +9,7 @@ use Rattle.std.proofs.lemmas.List.{length-replicate, get_or-replicate}
 use Rattle.theory.specs.Numbers.{EVENTS}
 use Rattle.theory.specs.Below.{any_below}
 use Rattle.theory.specs.Graph.{Edges}
-use Rattle.theory.specs.Laws.Tests.{same_or}
+use Rattle.theory.proofs.Laws.Tests.{same_or}
 use Rattle.reach_row.specs.Row.{Row, reaches, RowIs}
 use Rattle.reach_row.specs.Laws.Changes.{past_event}
 use Rattle.reach_row.specs.Laws.Row.{row_same, none_reached}

@@ -1,7 +1,7 @@
 -- The contract of `request_at` leaves one possible answer: any two that it allows are equal.
 -- Assumes nothing.
 use Rattle.std.specs.Prelude.{◌≡◌, List, ℕ}
-use Rattle.theory.specs.Laws.Exact.{exact}
+use Rattle.theory.proofs.Laws.Exact.{exact}
 use Rattle.tables.specs.Asked.{request_at}
 use Rattle.requests.specs.declared.Request.{Request}
 use Rattle.requests.specs.Asked.{request_of}

@@ -2,7 +2,7 @@
 -- Assumes nothing.
 use Rattle.std.specs.Prelude.{◌≡◌, List, ℕ}
 use Rattle.std.proofs.Common.{ap}
-use Rattle.theory.specs.Laws.Exact.{exact}
+use Rattle.theory.proofs.Laws.Exact.{exact}
 use Rattle.frames.specs.Frame.{bytes_of}
 use Rattle.sheet_tests.specs.declared.Seen.{Seen}
 use Rattle.sheet_acts.specs.Acts.{Progress, progress, after}

@@ -7,7 +7,7 @@ use Rattle.theory.specs.Numbers.{EVENTS}
 use Rattle.theory.specs.Events.{Events}
 use Rattle.theory.specs.Sheet.{GoodOrder}
 use Rattle.theory.specs.Graph.{Levels}
-use Rattle.theory.specs.Laws.OneSolution.{levels_unique}
+use Rattle.theory.proofs.Laws.OneSolution.{levels_unique}
 use Rattle.tables.specs.Layout.{byte_at, sheet_of}
 use Rattle.tables.specs.Buffers.{roles_of, events_of}
 use Rattle.masks.specs.Laws.Held.{events_one}

@@ -13,8 +13,8 @@ use borrow.Author.Tests.{leb-true, eqb-true, eqb-false}
 use Rattle.theory.specs.Numbers.{REQUESTS}
 use Rattle.theory.specs.Sheet.{is}
 use Rattle.theory.specs.Instant.{request_fits}
-use Rattle.theory.specs.Laws.Tests.{and_left, and_right, or_cases, test}
-use Rattle.theory.specs.Laws.Exists.{is_only}
+use Rattle.theory.proofs.Laws.Tests.{and_left, and_right, or_cases, test}
+use Rattle.theory.proofs.Laws.Exists.{is_only}
 use Rattle.text.specs.Lines.{Lines, none, endless, line}
 use Rattle.text.specs.Framed.{first_bad, framed}
 use Rattle.frames.specs.Frame.{bytes_of}

@@ -6,8 +6,8 @@ use Rattle.std.specs.Bool.{beq}
 use Rattle.std.proofs.Math.Bool.{and-true, and_assoc}
 use Rattle.std.proofs.Math.Dec.{eqb-zero-suc, eqb-suc-suc}
 use Rattle.theory.specs.Below.{all_below}
-use Rattle.theory.specs.Laws.Below.{all_elim}
-use Rattle.theory.specs.Laws.Tests.{test}
+use Rattle.theory.proofs.Laws.Below.{all_elim}
+use Rattle.theory.proofs.Laws.Tests.{test}
 use Rattle.text.specs.Framed.{is_digit, first_bad, all_digits}
 use Rattle.text.specs.Laws.Lines.{here}
 

@@ -3,7 +3,7 @@
 use Rattle.std.specs.Prelude.{◌≡◌, refl, Bool, true, false, not, ◌&&◌, List, [], ◌∷◌, ◌++◌, ℕ, suc, ◌+◌, ◌-◌, ◌≤◌, ◌<◌, eqb, length, get_or, take, drop}
 use Rattle.std.proofs.Common.{ap, ◌∙◌, ⊎_elim, add-one, arith, length-drop, drop_of_length-le, drop-drop, drop-cons, eqb-true, eq-eqb, ne_eqb}
 use Rattle.std.proofs.lemmas.Bool.{eqb-false, not-true}
-use Rattle.theory.specs.Laws.Tests.{and_left, and_right, test}
+use Rattle.theory.proofs.Laws.Tests.{and_left, and_right, test}
 use Rattle.text.specs.Lines.{LINE_END, Lines, none, endless, line, onto, lines, span}
 
 span_le : (l : List ℕ) → span l ≤ length l

@@ -1,0 +1,16 @@
+-- `cases::glyph` meets its contract: its test is that of the definition.
+-- Assumes nothing.
+use borrow.Author.Tests.{lt-ltb, le-ltb}
+use Rattle.cases.specs.Digits.{glyph_of}
+use borrow.Author.Rules.{rules}
+use Rattle.cases.proofs.glyph.Goals as goal
+
+pub returns-then-d-lt10 : goal.returns-then-d-lt10
+unfolding glyph_of
+returns-then-d-lt10 c =
+    search (lt-ltb, le-ltb)
+
+pub returns : goal.returns
+unfolding glyph_of
+returns c =
+    search (lt-ltb, le-ltb)

@@ -1,0 +1,11 @@
+-- `reader::verdict_of` meets its contract: in each arm the reading is known.
+-- Assumes nothing.
+use Rattle.reader.proofs.verdict_of.Goals as goal
+
+pub returns-in-Good : goal.returns-in-Good
+returns-in-Good c =
+    rw c.in-Good.is
+
+pub returns-in-Refused : goal.returns-in-Refused
+returns-in-Refused c =
+    rw c.in-Refused.is

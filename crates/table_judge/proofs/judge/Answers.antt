@@ -1,0 +1,15 @@
+-- `table_judge::judge` meets its contract: the verdict on the rows decides, and only where they pass is the loop test asked.
+-- Assumes nothing.
+use Rattle.tables.specs.Lent.{rules}
+use Rattle.table_judge.proofs.Laws.Answer.{rows_refused, rows_passed}
+use Rattle.table_judge.proofs.judge.Goals as goal
+
+pub returns-in-Pass : goal.returns-in-Pass
+returns-in-Pass c =
+    let a = c.args in
+    rows_passed (rules a.counts a.periodics.now a.triggers.now) _ c.rows_judged-rows.ensures c.in-Pass.is _ c.loop_judged.ensures
+
+pub returns-in-Refused : goal.returns-in-Refused
+returns-in-Refused c =
+    let a = c.args in
+    rows_refused (rules a.counts a.periodics.now a.triggers.now) _ c.rows_judged-rows.ensures _ c.in-Refused.is

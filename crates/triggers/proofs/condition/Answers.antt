@@ -1,0 +1,10 @@
+-- `triggers::condition` meets its contract: condition j is byte 6 + j of the row.
+-- Assumes nothing.
+use mathlib.Core.Path.{refl}
+use Rattle.tables.specs.Layout.{trigger_from}
+use Rattle.triggers.proofs.condition.Goals as goal
+
+pub returns : goal.returns
+unfolding trigger_from
+returns c =
+    rw (c.byte.ensures, c.index.ensures, c.row_index.ensures) refl

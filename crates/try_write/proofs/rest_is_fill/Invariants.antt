@@ -1,0 +1,13 @@
+-- `try_write::rest_is_fill` is safe and ends. The measure is how many bytes are left.
+-- Assumes nothing.
+use Prim.Native.Nat.{◌-◌}
+use lib.ListN.{length}
+use Rattle.try_write.proofs.rest_is_fill.Given as goal
+
+abbrev pub invariant-loop-i : goal.invariant-loop-i
+invariant-loop-i l =
+    Unit
+
+abbrev pub decreases-loop-i : goal.decreases-loop-i
+decreases-loop-i l =
+    length l.buffer - l.i
