@@ -1,4 +1,4 @@
-# shellcheck shell=sh disable=SC2154
+# shellcheck shell=sh disable=SC2154,SC2034
 # What `./box edits` does; box reads this file, and has what it names and does not make.
 #
 # An edit is a wrong program: a change of a crate that the prover must refuse. Those of crates/CRATE/must-fail/ are tried by every gate: of the entries that others call, of the model's
@@ -17,7 +17,7 @@ crates_with_edits() {
 
 # lay_out CRATE..: a copy of the crates, in which these have their edits of both sorts and no other has any.
 lay_out() {
-    copy_crates || return 1
+    copy_crates "$work/1" || return 1
     rm -rf "$work/1/crates"/*/must-fail
     for name; do
         twice=$(edits_of "$name" | sed 's|.*/||' | LC_ALL=C sort | uniq -d)
@@ -26,12 +26,6 @@ lay_out() {
             cp "$file" "$work/1/crates/$name/must-fail/" || return 1
         done || return 1
     done
-}
-
-# told NAME EDIT: what the prover said of an edit that was refused, for a fact or by form.
-told() {
-    said=$work/1/target/must-fail/$1/$2/.log
-    if by_form; then say "$1/$2" >>"$work/forms"; fi
 }
 
 # edits [CRATE..]: every edit of those, or of all.
@@ -49,35 +43,29 @@ edits() {
     mkdir -p target
     lay_out "$@" || stop 1 "the crates could not be copied"
     say "box: proving in a copy what is not proved yet" >&2
-    check_in "$work/1" target/edits.log "$@" || stop 1 "the crates are not proved: target/edits.log says why"
+    check_in "$work/1" "$top/target/edits.log" "$@" || stop 1 "the crates are not proved: target/edits.log says why"
     (cd "$work/1" && rt must-fail "$@") </dev/null >"$work/tried" 2>&1 &
-    beside=$! seen=0
+    beside=$! began=$(date +%s)
+    told=$began
     while kill -0 "$beside" 2>/dev/null; do
         sleep 1
-        tell_tried
+        going "trying the edits, after $(($(date +%s) - began)) s"
     done
     wait "$beside"
     code=$?
     beside=''
-    tell_tried
+    sed -n 's/^rt: must-fail //p' "$work/tried"
     cp "$work/tried" target/edits.log
     count_edits "$@"
 }
 
-# tell_tried: what came since this was last asked.
-tell_tried() {
-    awk -v seen="$seen" 'NR > seen && /^rt: must-fail / { sub(/^rt: must-fail /, ""); print }' "$work/tried"
-    seen=$(wc -l <"$work/tried")
-}
-
-# count_edits CRATE..: how many there are, and which were refused only by form. Status 1 where one was not refused or not tried.
+# count_edits CRATE..: how many there are, and which were refused only by form, or by a limit of the prover. Status 1 where one was not refused or not tried.
 count_edits() {
-    : >"$work/forms"
     there=$(for name; do edits_of "$name"; done | wc -l | tr -d ' ')
-    sed -n 's|^rt: must-fail \([a-z_0-9]*\)/\([^:]*\): refused, as it must be.*|\1 \2|p' "$work/tried" >"$work/refused"
-    while read -r name edit; do told "$name" "$edit"; done <"$work/refused"
-    refused=$(wc -l <"$work/refused" | tr -d ' ') forms=$(wc -l <"$work/forms" | tr -d ' ')
-    sed 's/^/refused by form: /' "$work/forms"
-    say "box: of $there edits $refused were refused, $((refused - forms)) for a fact and $forms only by form"
+    sed -n 's|^rt: must-fail \([a-z_0-9]*/[^:]*\): refused, as it must be|\1|p' "$work/tried" >"$work/refused"
+    sed -n 's| (only because a proof file names .*|: refused by form|p; s| (only by a limit .*|: refused by a limit|p' "$work/refused" >"$work/forms"
+    refused=$(wc -l <"$work/refused" | tr -d ' ') forms=$(grep -c ' form$' "$work/forms") limits=$(grep -c ' limit$' "$work/forms")
+    cat "$work/forms"
+    say "box: of $there edits $refused were refused, $((refused - forms - limits)) for a fact, $forms only by form and $limits only by a limit of the prover"
     [ "$code" -eq 0 ] && [ "$refused" -eq "$there" ] || stop 1 "an edit was not refused, or not tried: target/edits.log says which"
 }

@@ -5,7 +5,7 @@
 # has the changes, in the form of the must-fail edits: `file:` holds for the pairs `old:`, `new:` after it, and an old text stands once in its file. Lines of one word that follow each other
 # are one text. The files may be of any crates, laws and proofs among them, which then fit what they are about. In a copy, every crate that `examples` rests on must be proved, and `examples`
 # must be refused, first at the computed test of its table.
-test_of_table=specs/Laws/Said.antt
+test_of_table=proofs/Laws/Said.antt
 
 # change FILE OLD NEW: one text in the place of another.
 change() {
@@ -43,20 +43,22 @@ make_slip() {
     [ "$changes" -gt 0 ] || stop 1 "slips/$1.slip changes nothing"
 }
 
-# first_error LOG: where the first error in `examples` stands, as FILE:LINE.
-first_error() { sed -n 's|^.*/crates/examples/\([^: ]*:[0-9]*\):[0-9]*: error.*|\1|p' "$1" | head -n 1; }
+# first_error LOG: where the first error in `examples` stands, as FILE:LINE. (The kit names a file from its crate's folder, and ends with the first crate that is not proved.)
+first_error() { sed -n 's|^\(\./\)*\([^: ]*:[0-9]*\):[0-9]*: error.*|\2|p' "$1" | head -n 1; }
 
 # try_slip NAME: what comes of it is left in outcome. Status 1 where it is not as it must be.
 try_slip() {
-    log=target/slips/$1.log began=$(date +%s)
+    log=$top/target/slips/$1.log began=$(date +%s)
     rm -rf "$work/1"
-    copy_crates || stop 1 "the crates could not be copied"
+    copy_crates "$work/1" || stop 1 "the crates could not be copied"
     make_slip "$1"
     say "$1:$(sed -n 's/^#//p' "slips/$1.slip")"
     if check_in "$work/1" "$log" examples; then
         outcome='NOT REFUSED: examples is still proved'
-    elif ! grep -q '^rt: FAILED: examples$' "$log"; then
-        outcome="NO SLIP, for these are not proved: $(sed -n 's/^rt: FAILED: //p' "$log")"
+    elif grep -q '^rt: the library .* did not build' "$log"; then
+        outcome="NO SLIP, for this is not proved: $(sed -n 's/^rt: the library \(.*\) did not build.*/\1/p' "$log")"
+    elif ! grep -q '^logic=not-proved' "$log"; then
+        outcome="NO ANSWER: the check of examples did not end well"
     else
         place=$(first_error "$log")
         outcome="REFUSED FOR ANOTHER REASON, first at $place"
