@@ -2,11 +2,11 @@
 # What `./box bench` does; box reads this file, and has what it names and does not make.
 
 made=target/bench # what it builds
-day=target/bin/day peer=$made/peer
+day=$(program_of day) peer=$made/peer
 
-# build_peer: the peer, and a program that does nothing, by the kit's own compiler for the kit's own target; the stopwatch for this machine.
+# build_peer: the peer, and a program that does nothing, by the kit's own compiler and with its C library; the stopwatch for this machine.
 build_peer() {
-    mkdir -p "$made"
+    kit=$(dirname "$(rt doc)") && tools=$kit/toolchain && mkdir -p "$made" || return 1
     for f in bench/peer/*.c bench/nothing.c; do
         "$tools/bin/clang" --target=x86_64-unknown-linux-gnu -march=x86-64 -fPIE -std=c99 -pedantic -Wall -Wextra -Werror -O3 \
             -c -o "$work/$(basename "$f" .c).o" "$f" || return 1
@@ -17,7 +17,7 @@ build_peer() {
 linked() { # PROGRAM OBJECT..
     program=$1
     shift
-    "$kit/on/$(uname -m)/bin/rattle-link" --target x86_64-unknown-linux-gnu --toolchain "$tools" -o "$program" "$@" 2>"$work/link" || {
+    "$kit/bin/rattle-link" --target x86_64-unknown-linux-gnu --toolchain "$tools" -o "$program" "$@" 2>"$work/link" || {
         cat "$work/link" >&2
         return 1
     }
@@ -30,8 +30,8 @@ make_input() { awk -v name="$1" -v until="${2-}" -f bench/inputs.awk >"$work/$1$
 same_bytes() {
     for input in "$@"; do
         make_input "$input" && cp "$work/$input" "$work/cases" || return 1
-        loaded "$day" <"$work/cases" >"$work/ours" || : >"$work/ours"
-        loaded "$peer" <"$work/cases" >"$work/theirs" || : >"$work/theirs"
+        "$day" <"$work/cases" >"$work/ours" || : >"$work/ours"
+        "$peer" <"$work/cases" >"$work/theirs" || : >"$work/theirs"
         cmp -s "$work/ours" "$work/theirs" || keep "bench-$input" "ours and the peer" || return 1
         "$second" day <"$work/cases" >"$work/theirs" || return 1
         cmp -s "$work/ours" "$work/theirs" || keep "bench-$input" "ours and the second program" || return 1
@@ -39,13 +39,13 @@ same_bytes() {
     say "$# inputs: ours, the peer and the second program print the same bytes"
 }
 
-# turns RUNS {PROGRAM INPUT}..: the programs in turn, so many times, under the same loader; for each a line with the median of its
-# processor time in microseconds, the lowest and the highest.
+# turns RUNS {PROGRAM INPUT}..: the programs in turn, so many times; for each a line with the median of its processor time in microseconds,
+# the lowest and the highest.
 turns() {
     runs=$1 words=$(($# - 1))
     shift
     while [ "$words" -gt 0 ]; do
-        set -- "$@" -- "$work/$2" ${emulator:+"$emulator"} "$loader" --library-path "$tools/lib" "$1"
+        set -- "$@" -- "$work/$2" "$1"
         shift 2
         words=$((words - 2))
     done
@@ -101,12 +101,12 @@ stacks() {
     stack 'ours: a sheet read, no step' "$day" sheet
     stack 'ours: a day, common' "$day" common-100
     stack 'ours: a day, dense' "$day" dense-100
-    [ ! -x target/bin/try_read ] || stack 'try_read: one reading' target/bin/try_read read
-    [ ! -x target/bin/try_step ] || stack 'try_step: one step' target/bin/try_step step
+    [ ! -x "$(program_of try_read)" ] || stack 'try_read: one reading' "$(program_of try_read)" read
+    [ ! -x "$(program_of try_step)" ] || stack 'try_step: one step' "$(program_of try_step)" step
     stack 'peer: a day, dense' "$peer" dense-100
 }
 stack() { # WHAT PROGRAM INPUT
-    kib=$("$made/stopwatch" stack -- "$work/$3" "$loader" --library-path "$tools/lib" "$2") || return 1
+    kib=$("$made/stopwatch" stack -- "$work/$3" "$2") || return 1
     printf '%-34s %6s KiB\n' "$1" "$kib"
 }
 
@@ -116,7 +116,6 @@ bench() {
     [ $# -eq 0 ] || misuse bench "takes no further word"
     room
     ready
-    find_tools
     second_there
     build_peer || stop 1 "the peer was not built"
     load
@@ -126,6 +125,6 @@ bench() {
     make_input grow-256 # which is dense once more
     part 'a minute with N triggers' minutes 7 grow-0 grow-16 grow-32 grow-64 grow-128 grow-256
     part 'reading' readings 2001
-    [ -n "$emulator" ] || part 'stack' stacks
+    part 'stack' stacks
     load
 }

@@ -17,24 +17,34 @@ draw_changes() {
 }
 
 # is_proved CRATE: as it stands in this copy. What was said is left in $said.
-is_proved() { rt dev "$1" </dev/null >"$said" 2>&1; }
+is_proved() { (cd "crates/$1" && exec rt check) </dev/null >"$said" 2>&1; }
 
-# by_form: what was refused is only that the proof speaks of a name that the changed code does not have. No fact was asked.
+# runs_well CRATE: the tests of a crate that has some pass, and a program ends well and prints what its file stdout has.
+runs_well() (
+    cd "crates/$1" || exit 1
+    if grep -rqF '#[test]' src; then rt test </dev/null >"$said" 2>&1 || exit 1; fi
+    [ -e src/main.rt ] || exit 0
+    given=stdin wanted=stdout
+    [ -e stdin ] || given=/dev/null
+    [ -e stdout ] || wanted=/dev/null
+    rt run <"$given" >"$said.printed" 2>"$said" && cmp "$wanted" "$said.printed" >>"$said" 2>&1
+)
+
+# by_form: what was refused is only that a proof file speaks of a name that the changed code does not have. No fact was asked. (Laws are of no function, wherever they stand.)
 by_form() {
-    awk '/it is not proved that/ { fact = 1 }
-        /: error: / && !/was not admitted/ { if (/ has no /) form = 1; else fact = 1 }
+    awk '/ did not prove / || (/: no proof: / && !/ it calls /) { fact = 1 }
+        /: error: / && !/was not admitted/ { if (/^(\.\/)?proofs\/.*(has no field|has no `|is not in scope)/ && !/^(\.\/)?proofs\/Laws[.\/]/) form = 1; else fact = 1 }
         END { exit !(form && !fact) }' "$said"
 }
 
-# judge_change CRATE: what the prover says of this copy. Where the quick check refuses nothing, the verdict decides.
+# judge_change CRATE: what the prover says of this copy. Where it refuses nothing, the crate is run.
 judge_change() {
     is_proved "$1"
     code=$?
     if [ "$code" -eq 0 ]; then
         outcome=survived
-        rt check "$1" </dev/null >"$said" 2>&1 && return
-        code=$? outcome='survived, and its run fails'
-        grep -q "^rt: $1 proved, and its run FAILED" "$said" && return
+        runs_well "$1" || outcome='survived, and its run fails'
+        return
     fi
     outcome='no answer'
     [ "$code" -eq 1 ] || return
@@ -53,7 +63,7 @@ try_change() {
     judge_change "$1"
     cp "$said.old" "$file" || return 1
     case $outcome in
-    survived*) rt check "$1" </dev/null >"$said" 2>&1 || return 1 ;;
+    survived*) is_proved "$1" || return 1 ;;
     esac
     printf '%s\t%s\n' "$outcome" "$change" >>"$work/outcomes"
 }
@@ -100,7 +110,7 @@ tell_new() {
 try_all() {
     jobs=${RT_JOBS:-$(nproc 2>/dev/null || echo 1)} seen=0
     [ "$jobs" = 1 ] || jobs=2
-    [ "$jobs" = 1 ] || cp -R "$work/1" "$work/2" || return 1
+    [ "$jobs" = 1 ] || copy_crates "$work/2" || return 1
     : >"$work/outcomes"
     try_crates 1 "$jobs" &
     beside=$!
@@ -208,13 +218,13 @@ known_crate() {
 
 try_mutants() {
     build_finder || stop 1 "the tool that finds changes was not built"
-    copy_crates || stop 1 "the crates could not be copied"
+    copy_crates "$work/1" || stop 1 "the crates could not be copied"
     draw_changes "$number" "$seed" "$crate" || stop 1 "no changes could be drawn"
     [ -s "$work/drawn" ] || misuse mutants "finds no code to change in ${crate:-any crate}"
     say "box: $(wc -l <"$work/mine" | tr -d ' ') changes can be tried, $number are asked for; seed $seed"
     say "box: proving in a copy what is not proved yet" >&2
     # shellcheck disable=SC2046
-    check_in "$work/1" target/mutants.log $(cat "$work/names") || stop 1 "the crates are not proved: target/mutants.log says why"
+    check_in "$work/1" "$top/target/mutants.log" $(cat "$work/names") || stop 1 "the crates are not proved: target/mutants.log says why"
     try_all "$number" || stop 1 "nothing counts"
     tried=$(grep -vc '^senseless' "$work/outcomes")
     [ "$tried" -eq "$number" ] || say "box: there were no more than $tried changes that compile"

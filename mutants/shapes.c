@@ -133,15 +133,31 @@ static const struct shape *shape_in_crate(const struct book *book, enum shape_ki
     return NULL;
 }
 
-/* The crate that a file takes a name from, by a line 'use CRATE::NAME;'; nothing where it has no such line. */
+/* Whether what `use CRATE::` from token i on brings, one name or several in braces, has this name. */
+static int brings(const struct source *source, size_t i, struct part name)
+{
+    size_t end;
+
+    if (!is_symbol(source, i, "{")) {
+        return is_symbol(source, i + 1, ";") && same_part(token_text(source, i), name);
+    }
+    end = source->tokens[i].mate;
+    for (i++; i < end; i++) {
+        if (same_part(token_text(source, i), name)) {
+            return 1;
+        }
+    }
+    return 0;
+}
+
+/* The crate that a file takes a name from, by a line 'use CRATE::NAME;' or 'use CRATE::{NAME, ..};'; nothing where it has no such line. */
 static struct part used_from(const struct source *source, struct part name)
 {
     struct part none = {"", 0};
     size_t i;
 
     for (i = 0; i + 4 < source->count; i++) {
-        if (is_name(source, i, "use") && is_symbol(source, i + 2, "::") && is_symbol(source, i + 4, ";")
-            && same_part(token_text(source, i + 3), name)) {
+        if (is_name(source, i, "use") && is_symbol(source, i + 2, "::") && brings(source, i + 3, name)) {
             return token_text(source, i + 1);
         }
     }

@@ -53,7 +53,7 @@ cut_short() (
 # for room since the pipe holds less than the day; that write is cut short.
 read_slowly() {
     mkfifo "$work/pipe" || return 1
-    (exec ${emulator:+"$emulator"} "$loader" --library-path "$tools/lib" target/bin/day) <"$work/cases" >"$work/pipe" &
+    (exec "$(program_of day)") <"$work/cases" >"$work/pipe" &
     beside=$!
     {
         dd bs=1 count=1 2>/dev/null

@@ -2,14 +2,16 @@
 # Below the name of a function stands its theorem. It is read as a telescope, parts that an arrow ends, and a conclusion.
 # - A part is made of binders of plain data, or it is a hypothesis. A hypothesis is listed below HYPOTHESES with its reason, and what is listed there is there.
 # - What the contract speaks of is bound: the theorem is said for all of it.
-# - The conclusion is `Exact` of the contract, word for word, over the answer and the end of all that is lent to be changed.
+# - The conclusion is `Exact` of the contract, word for word, over the answer and the end of all that is lent to be changed. (The contract calls the answer `result`; the theorem gives it a
+#   name of its own, which is no other word of the contract.)
 # - A word means here what it means in the contract: it comes from the same file. `Exact` says that any two outcomes are equal, and nothing else is defined or renamed.
 
 function amiss(words) { print "listed: " words; bad = 1 }
 
 # ---- words
 
-# text with one blank between words, and blanks around brackets; a comment is no word
+# text with one blank between words, and blanks around brackets; a comment is no word. A field is a word, whose point stands before it: x.now is x .now. (That m.f stands for f of a module m
+# is for bare to say.)
 function words_of(s) {
     sub(/(^| )--( .*)?$/, "", s)
     gsub(/[(){};,]/, " & ", s)
@@ -22,24 +24,36 @@ function words_of(s) {
 # as it is written, for messages
 function written(s) { gsub(/\( /, "(", s); gsub(/ \)/, ")", s); gsub(/\{ /, "{", s); gsub(/ \}/, "}", s); return s }
 
-# head NAME tail becomes NAME mark
-function each_as(s, head, tail, mark,    name) {
-    while (match(s, head " [^ ]+ " tail)) {
-        name = substr(s, RSTART, RLENGTH)
-        sub(head " ", "", name)
-        sub(/ .*/, "", name)
-        s = substr(s, 1, RSTART - 1) name mark substr(s, RSTART + RLENGTH)
+# the words of s, each as it is, but x.field as two where x is no module of `where`
+function fields_apart(where, s,    n, i, w, v, head, out) {
+    n = split(s, v, " ")
+    for (i = 1; i <= n; i++) {
+        w = v[i]
+        head = w
+        sub(/\..*/, ".", head)
+        if (w ~ /^[^.]+\.[^.]/ && !((where, head) in from)) gsub(/\./, " .", w)
+        out = out (i > 1 ? " " : "") w
     }
-    return s
+    return out
 }
 
-# a contract as a statement says it: x for what is lent as x, x′ for the same at the end
-function said(s) {
-    s = each_as(each_as(s, "\\( now \\(", "\\.entry \\) \\)", ""), "now \\(", "\\.entry \\)", "")
-    return each_as(each_as(s, "\\( now \\(", "\\.exit \\) \\)", "′"), "now \\(", "\\.exit \\)", "′")
+# a contract as a statement says it: x for what is lent as x, x' for the same at the end; of a returned part, what it holds. `.old` and `.new` are of what is lent to be changed, `.now` of what is
+# lent to be read, and of the answer: anything else is amiss.
+function said(fn, s,    crate, n, i, w, out) {
+    crate = fn
+    sub(/:.*/, "", crate)
+    n = split(fields_apart(crate, s), w, " ")
+    for (i = 1; i <= n; i++) {
+        if (w[i + 1] == ".now" && index(read_only[fn] " result ", " " w[i] " ")) w[i + 1] = ""
+        else if (w[i + 1] == ".old" && index(changed[fn] " ", " " w[i] "' ")) w[i + 1] = ""
+        else if (w[i + 1] == ".new" && index(changed[fn] " ", " " w[i] "' ")) { w[i] = w[i] "'"; w[i + 1] = "" }
+        else if (w[i] ~ /^\.(old|new|now)$/) amiss(fn ": in its contract stands " w[i - 1] w[i] ", and it is not known what that is")
+        if (w[i] != "") out = out (out == "" ? "" : " ") w[i]
+    }
+    return out
 }
 
-function bare(w) { if (w ~ /^[A-Za-z][^.]*\../) sub(/^[^.]*\./, "", w); return w } # without the name of a module
+function bare(w) { if (w ~ /^[A-Za-z][^.]*\../) sub(/^[^.]*\./, "", w); return w } # without the name of a module: other points stand apart
 
 function all_bare(s,    n, i, w, out) {
     n = split(s, w, " ")
@@ -55,7 +69,6 @@ function take_use(where, s,    path, n, i, item, w) {
     sub(/;$/, "", s)
     path = s
     sub(/\.\{.*/, "", path)
-    sub(/·specs\.specs\./, ".specs.", path)
     if (s !~ /\{/) {
         n = split(path, w, /[. ]/)
         sub(/ as .*/, "", path)
@@ -70,7 +83,7 @@ function take_use(where, s,    path, n, i, item, w) {
     }
 }
 
-function spoken(name,    w) { if (name ~ /_/) { split(name, w, "_"); name = w[1] w[2] } return name } # _≡_ is said ≡
+function spoken(name,    w) { if (name ~ /◌/) { split(name, w, "◌"); name = w[1] w[2] } return name } # ◌≡◌ is said ≡
 
 function origin(where, w,    module) {
     if ((where, w) in from) return from[where, w]
@@ -104,55 +117,72 @@ function open_function(s) {
 
 # at the body of a function its signature is whole: whether it answers, what it is given, and what of it may be changed
 function close_function(    n, i, w, name) {
-    if (head !~ /->/) outcome[fn] = ""
+    outcome[fn] = head ~ /->/ ? "result" : ""
     sub(/^[^(]*\(/, "", head)
     sub(/\)[^)]*$/, "", head)
     n = split(head, w, ", *")
     for (i = 1; i <= n; i++) if (w[i] ~ /:/) {
         name = w[i]
         gsub(/^ +|:.*/, "", name)
-        if (name ~ /_/) name = "«" name "»"
         given[fn] = given[fn] " " name
-        if (w[i] ~ /: &mut /) changed[fn] = changed[fn] " " name "′"
+        if (w[i] ~ /: &(.[a-z]+ )?mut /) changed[fn] = changed[fn] " " name "'"
+        else if (w[i] ~ /: &/) read_only[fn] = read_only[fn] " " name
     }
+    if (fn in clauses) contract[fn] = said(fn, words_of(clauses[fn]))
     fn = ""
 }
 
-# ensures { λ NAME. ⌜ WORDS ⌝ }
+# ensures { WORDS }, or ensures NAME { WORDS }; of several clauses, all that they say
 function take_contract(s) {
-    outcome[fn] = s
-    sub(/.*\{ λ /, "", outcome[fn])
-    sub(/\. ⌜.*/, "", outcome[fn])
-    sub(/.*⌜ /, "", s)
-    sub(/ ⌝.*/, "", s)
-    contract[fn] = said(words_of(s))
-    sub("^now " outcome[fn] " ", outcome[fn] " ", contract[fn]) # of a returned part, what it holds
+    sub(/^ *ensures [^{]*\{ */, "", s)
+    sub(/ *\}$/, "", s)
+    if (fn in clauses) s = joined_clauses(clauses[fn], s)
+    clauses[fn] = s
 }
+function joined_clauses(one, other) {
+    if (!(fn in many)) one = "(" one ")"
+    many[fn] = 1
+    return one " × (" other ")"
+}
+
+function closed(s) { return gsub(/\{/, "", s) == gsub(/\}/, "", s) } # each brace that opens is closed
 
 # a contract may stand over several lines: it is taken as one
 FILENAME ~ /\.rt$/ {
     line = $0
+    sub(/ *$/, "", line)
     if (clause != "") { sub(/^ +/, "", line); line = clause " " line }
-    clause = line ~ /^    (requires|ensures) / && line !~ /⌝ \}$/ ? line : ""
+    clause = line ~ /^    (requires|ensures) / && !closed(line) ? line : ""
     if (clause != "") next
     if (line ~ /^ghost use /) { split(FILENAME, path, "/"); take_use(path[2], line) }
     if (line ~ /^pub fn /) { sub(/<'[a-z]+>/, "", $3); open_function($3) } # a lifetime is no part of the name
     if (fn == "") next
     if (line ~ /\{$/) { close_function(); next }
     if (line ~ /^    requires/) asks[fn] = 1
-    if (line ~ /^    ensures/ && !(fn in contract)) take_contract(line)
+    if (line ~ /^    ensures/) take_contract(line)
     if (line !~ /^    (requires|ensures) /) head = head " " line
     next
 }
 
 # ---- a theorem
 
-# the conclusion that a function's theorem must have
-function exactly(fn,    outs, n, w) {
-    outs = outcome[fn] changed[fn]
+# the conclusion that a function's theorem must have, where it calls the answer so
+function exactly(fn, answer,    outs, n, i, w, said_so) {
+    n = split(contract[fn], w, " ")
+    for (i = 1; i <= n; i++) said_so = said_so (i > 1 ? " " : "") (outcome[fn] != "" && w[i] == "result" ? answer : w[i])
+    if (said_so ~ /^\( [^():]* : [^()]*\) →/) said_so = "( " said_so " )" # what is said for all of something stands in brackets there
+    outs = (outcome[fn] == "" ? "" : answer) changed[fn]
     sub(/^ /, "", outs)
     n = split(outs, w, " ")
-    return "Exact" mark[n] " ( λ " outs ". " contract[fn] " )"
+    return "Exact" mark[n] " ( λ " outs ". " said_so " )"
+}
+
+# what the conclusion calls the answer: a name that is no other word of the contract, or else `result`
+function answer_in(fn, conclusion,    w) {
+    if (outcome[fn] == "" || !match(conclusion, /^Exact[^ ]* \( λ [^ ]+/)) return "result"
+    split(substr(conclusion, RSTART, RLENGTH), w, " ")
+    sub(/\.$/, "", w[4])
+    return index(" " contract[fn] changed[fn] " ", " " w[4] " ") ? "result" : w[4]
 }
 
 function is_data(type,    n, i, w, o) { # only words of data: no arrow, no equation
@@ -203,7 +233,7 @@ function all_bound(fn,    n, i, w) {
     for (i = 1; i <= n; i++) if (index(" " contract[fn] " ", " " w[i] " ") && !index(bound, " " w[i] " ")) amiss(fn ": the theorem is not said for all " w[i])
 }
 
-function close_entry(    end, word) {
+function close_entry(    end, word, exact_end) {
     if (entry in is_public && !(entry in contract)) amiss(entry " has no contract that a theorem could say")
     else if (entry in is_public && theorem == "") amiss(entry " has no theorem below its name")
     else if (entry in is_public) {
@@ -211,7 +241,8 @@ function close_entry(    end, word) {
         all_bound(entry)
         word = other_meaning(entry, statement)
         if (word != "") amiss(entry ": " word " is not the " word " of its contract")
-        if (end != exactly(entry)) amiss(entry ": the theorem does not conclude " written(exactly(entry)) ", as its contract says")
+        exact_end = exactly(entry, answer_in(entry, end))
+        if (end != exact_end) amiss(entry ": the theorem does not conclude " written(exact_end) ", as its contract says")
     }
     entry = theorem = statement = ""
     open = 0
@@ -224,10 +255,10 @@ function exact_says(n,    i, a, heads, both, one, other, equal) {
     for (i = 1; i <= n; i++) {
         a = substr("abdef", i, 1)
         heads = heads "{ " toupper(a) " } "
-        both = both "( " a " " a "′ : " toupper(a) " ) "
+        both = both "( " a " " a "' : " toupper(a) " ) "
         one = one " " a
-        other = other " " a "′"
-        equal = equal (i > 1 ? " × " : "") (n > 1 ? "( " a " ≡ " a "′ )" : a " ≡ " a "′")
+        other = other " " a "'"
+        equal = equal (i > 1 ? " × " : "") (n > 1 ? "( " a " ≡ " a "' )" : a " ≡ " a "'")
     }
     return heads "C = " both "→ C" one " → C" other " → " equal
 }
@@ -247,13 +278,13 @@ function take_listed(    s, w) {
     s = $0
     sub(/^[^`]*`[^`]*`/, "", s)
     if ($3 != "asks" || w[2] == "" || s !~ /^: [^ ]/) { amiss("below HYPOTHESES stands no hypothesis with its reason: " $0); return }
-    allowed[++allowances] = $2 "\t" words_of(w[2])
+    allowed[++allowances] = $2 "\t" fields_apart("claims", words_of(w[2]))
 }
 
 BEGIN {
     split("- ₂ ₃ ₄ ₅", mark, " ")
     mark[1] = ""
-    data["Prim.Native.Nat.ℕ"] = data["mathlib.Core.Bool.Bool"] = data["mathlib.Core.List.List"] = data["Rattle·reach_row.specs.Row.Row"] = 1
+    data["Rattle.std.specs.Prelude.ℕ"] = data["Rattle.std.specs.Prelude.Bool"] = data["Rattle.std.specs.Prelude.List"] = data["Rattle.reach_row.specs.Row.Row"] = 1
 }
 
 FNR == 1 { close_entry(); part = "" }
@@ -277,7 +308,7 @@ FILENAME ~ /\/Functions\.antt$/ {
 NF == 0 { close_entry() }
 entry != "" && theorem == "" && /^pub [^ ]+ : / { theorem = $2; open = 1; sub(/^pub [^ ]+ : /, "") }
 open && /^[^ ]/ && $1 == theorem { open = 0 }
-open { statement = words_of(statement " " words_of($0)) }
+open { statement = fields_apart("claims", words_of(statement " " words_of($0))) }
 
 END {
     close_entry()

@@ -1,5 +1,6 @@
 # What rests on what, for `tools/rests`. It reads the sources and the specs of every crate into declarations, and follows the names that each of them cites.
-# A file has the name that docs/CLAIMS.md gives it: crates/theory/specs/Laws/Run.antt is theory/Laws/Run; what the code of a crate declares is in its src, as theory/src.
+# A file has the name that docs/CLAIMS.md gives it: crates/theory/specs/Sheet.antt is theory/Sheet; what the code of a crate declares is in its src, as theory/src. A law has one name in either
+# place: crates/theory/proofs/Laws/Run.antt is theory/Laws/Run, as crates/loops/specs/Laws/Says.antt is loops/Laws/Says. All else of proofs/ is named with that folder, and is not read.
 # A declaration has file and name as its key. It is a record, a data type, a definition, a proof, or in the code a type or a function.
 # Nothing is passed over: a line that cannot be read, and a word of which it is not known what it stands for, are said. A variable that has the name of a definition counts as that
 # definition: rather one too many.
@@ -10,24 +11,31 @@ function before(s, mark) { return substr(s, 1, index(s, mark) - 1) }
 function after(s, mark) { return substr(s, index(s, mark) + length(mark)) }
 function file_of(key) { return before(key, SUBSEP) }
 function name_of(key) { return after(key, SUBSEP) }
-function path_of(f) { return f ~ /\/src$/ ? "crates/" f : "crates/" before(f, "/") "/specs/" after(f, "/") ".antt" }
+function path_of(f) { return f in path_at ? path_at[f] : "crates/" f }
 function is_kits(key) { return key !~ /^[a-z_0-9]+\// }
 function is_code(f) { return f ~ /\/src$/ }
 function is_laws(f) { return f ~ /^[^\/]*\/Laws(\/|$)/ }
-function is_proofs(f) { return is_laws(f) || f ~ /\/Exact$/ }
+function in_proofs(f) { return f ~ /^[^\/]*\/proofs\// }
+function is_proofs(f) { return is_laws(f) || in_proofs(f) || f ~ /\/Exact$/ }
+
+# the name of a file of specs/ or proofs/ of a crate
+function short(f) {
+    if (!sub(/\/specs\//, "/", f) && f ~ /^[^\/]*\/proofs\/Laws(\/|$)/) sub(/\/proofs\//, "/", f)
+    return f
+}
 
 # ---- reading: the names that a file uses
 
 # the file of one of our modules; a module of the kit stands for itself
 function module_file(path,    crate) {
-    if (path !~ /^Rattle·/) return path
-    sub(/^Rattle·/, "", path)
     crate = path
-    sub(/(\.|·).*/, "", crate)
-    path = after(path, ".specs.")
-    if (path ~ /^declared\./) return crate "/src"
+    sub(/^Rattle\./, "", crate)
+    sub(/\..*/, "", crate)
+    if (path !~ /^Rattle\./ || !(crate in is_crate)) return path
+    path = after(path, ".")
+    if (index(path, crate ".specs.declared.") == 1) return crate "/src"
     gsub(/\./, "/", path)
-    return crate "/" path
+    return short(path)
 }
 
 # use PATH; use PATH as m; use PATH.{a, b as c}. The path of a type that the code declares ends with its name, and its variants stand for it.
@@ -47,16 +55,16 @@ function take_use(s,    path, n, i, item, w, name) {
         split(item[i] " as " item[i], w, " as ")
         name = w[1]
         if (path ~ /\.declared\./) { name = after(path, ".declared."); sub(/\..*/, "", name) }
-        if (path ~ /\.the-variants$/) is_maker[file, spoken(w[2])] = 1
+        if (path ~ /\.TheVariants$/) is_maker[file, spoken(w[2])] = 1
         means(spoken(w[2]), module_file(path) SUBSEP name)
     }
 }
 
 function means(w, key) { meaning_in[file, w] = meaning_in[file, w] key "\n" }
 
-# of a name with places, as _gives_after_, the first word, gives; the others add nothing to it
+# of a name with places, as ◌gives◌after◌, the first word, gives; the others add nothing to it
 function spoken(name,    n, i, w, first) {
-    n = name ~ /_/ ? split(name, w, "_") : 0
+    n = name ~ /◌/ ? split(name, w, "◌") : 0
     for (i = 1; i <= n; i++) {
         if (first != "" && w[i] != "") adds_nothing[file, w[i]] = 1
         if (first == "") first = w[i]
@@ -125,14 +133,25 @@ function take_spec(line,    at) {
 
 # ---- reading: the code
 
+function closed(s) { return gsub(/\{/, "", s) == gsub(/\}/, "", s) } # each brace that opens is closed
+
+# use CRATE::T, or use CRATE::{T, f, ..}: the types, whose names have small letters too
+function take_types(line,    n, i, w) {
+    gsub(/[^A-Za-z0-9_]+/, " ", line)
+    n = split(line, w, " ")
+    for (i = 3; i <= n; i++) if (w[i] ~ /^[A-Z].*[a-z]/) means(w[i], w[2] "/src" SUBSEP w[i])
+}
+
 # types, and of functions the signature and the contract
-# a contract may stand over several lines: it is taken as one
+# a contract may stand over several lines, and so may what is used: it is taken as one
 function take_code(line,    w) {
-    if (clause != "") { sub(/^ +/, "", line); line = clause " " line; lines[key]++ }
-    clause = place == "head" && line ~ /^ *(requires|ensures) / && line !~ /⌝ \}$/ ? line : ""
+    if (clause != "") { sub(/^ +/, "", line); line = clause " " line; if (place == "head") lines[key]++ }
+    clause = ""
+    if (place == "head" && line ~ /^ *(requires|ensures) / && !closed(line)) clause = line
+    if (line ~ /^(ghost )?use / && line !~ /;$/) clause = line
     if (clause != "") return
     if (line ~ /^ghost use /) take_use(line)
-    if (line ~ /^use [a-z_]+::[A-Z][A-Za-z0-9]*[a-z]/) { split(line, w, /[ :;]+/); means(w[3], w[2] "/src" SUBSEP w[3]) }
+    if (line ~ /^use [a-z_]+::/) take_types(line)
     sub(/^pub /, "", line)
     if (line ~ /^(struct|enum|type|fn) /) {
         split(line, w, /[ (<;]+/)
@@ -144,12 +163,15 @@ function take_code(line,    w) {
     if (line ~ /^[{}]/ || (kind_of[key] == "function" && line ~ /\{$/) || line ~ /^type .*;/) place = ""
 }
 
+FILENAME == "crates.txt" { if (sub(/:.*/, "") && /^[a-z_0-9]+$/) is_crate[$0] = 1; next }
 FNR == 1 {
     file = FILENAME
     sub(/^crates\//, "", file)
-    sub(/\/specs\//, "/", file)
     sub(/\/src\/.*/, "/src", file)
     sub(/\.antt$/, "", file)
+    file = short(file)
+    if (FILENAME ~ /\.antt$/ && file in path_at) amiss(FILENAME ": " path_at[file] " has the same name, " file)
+    if (FILENAME ~ /\.antt$/) path_at[file] = FILENAME
     place = key = ""
     deep = 0
     if (FILENAME ~ /^crates\// && !(file in is_file)) { files[++file_count] = file; is_file[file] = 1 }
@@ -160,7 +182,7 @@ FILENAME ~ /\.md$/ { take_stored($0); take_theorems($0) }
 
 # ---- following: the words of a text
 
-function apart(s) { gsub(/[(){};,]/, " & ", s); gsub(/⌜|⌝/, " ", s); return s }
+function apart(s) { gsub(/[(){};,]/, " & ", s); return s }
 
 # the keys that a word stands for, each with a line end; nothing for a variable
 function meaning(w,    m) {
@@ -170,15 +192,17 @@ function meaning(w,    m) {
     return m != w && (file, m) in module ? module[file, m] SUBSEP after(w, ".") "\n" : ""
 }
 
+# of x.field, where x is no module, x is cited, and a field adds nothing
 function cite(w,    n, i, m, k) {
     if (w ~ /^(\.|[0-9]|_$)/ || w in language) return
+    if (w ~ /^[^.]+\.[^.]/ && !((file, before(w, ".")) in module)) w = before(w, ".")
     m = meaning(w)
     if (m == "" && !(w in variable || (file, w) in adds_nothing)) amiss(path_of(file) ": " name_of(citing) " cites " w ", and it is not known what that is")
     n = split(m, k, "\n") - 1
     for (i = 1; i <= n; i++) {
         if (k[i] in made_by) k[i] = made_by[k[i]]
         if (is_kits(k[i]) || k[i] in kind_of) cites[citing] = cites[citing] k[i] "\n"
-        else amiss(path_of(file) ": " name_of(citing) " cites " name_of(k[i]) " of " file_of(k[i]) ", which is not there")
+        else amiss(path_of(file) ": " name_of(citing) " cites " name_of(k[i]) " of " file_of(k[i]) ", which " (in_proofs(file_of(k[i])) ? "stands among proofs" : "is not there"))
     }
 }
 
@@ -249,9 +273,10 @@ function walk_code(    n, i, j, w, v) {
     n = split(heads[citing], w, "\n")
     for (i = 2; i <= n; i++) if (w[i] !~ /^ *(requires|ensures) /) {
         walk_types(w[i], i > 2 && w[2] ~ /^enum /)
-        for (j = split(w[i], v, /[ (,]+/); j > 0; j--) if (sub(/:$/, "", v[j])) variable[v[j]] = variable["«" v[j] "»"] = 1
+        for (j = split(w[i], v, /[ (,]+/); j > 0; j--) if (sub(/:$/, "", v[j])) variable[v[j]] = 1
     }
-    for (i = 2; i <= n; i++) if (sub(/^ *(requires|ensures) /, "", w[i])) walk(w[i])
+    variable["result"] = 1
+    for (i = 2; i <= n; i++) if (sub(/^ *(requires|ensures) [^{]*\{/, "", w[i])) { sub(/\}$/, "", w[i]); walk(w[i]) }
 }
 
 function signature(k,    s) {
@@ -487,7 +512,7 @@ function list(    i, k, f, names, sum, all, definitions, specs, of, codes, out) 
 }
 
 BEGIN {
-    split("→ λ : = × ⊥ ¬ Unit tt Type record let in where now", w, " ")
+    split("→ λ : = × ⊥ ¬ Unit tt Type record let in where", w, " ")
     for (i in w) language[w[i]] = 1
     split("≡ ≢ ≤ < ↔ ⊎ ⊥ ¬", w, " ")
     for (i in w) relation[w[i]] = 1
