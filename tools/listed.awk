@@ -1,6 +1,6 @@
 # The public functions and crates/claims/specs/Functions.antt, for `tools/listed`: first come the sources, then the specs of crates/claims.
 # Below the name of a function stands its theorem. It is read as a telescope, parts that an arrow ends, and a conclusion.
-# - A part is made of binders of plain data, or it is a hypothesis. A hypothesis is listed below HYPOTHESES with its reason, and what is listed there is there.
+# - A part is made of binders of plain data, or of types, whose elements are plain data too, or it is a hypothesis. A hypothesis is listed below HYPOTHESES with its reason, and what is listed there is there.
 # - What the contract speaks of is bound: the theorem is said for all of it.
 # - The conclusion is `Exact` of the contract, word for word, over the answer and the end of all that is lent to be changed. (The contract calls the answer `result`; the theorem gives it a
 #   name of its own, which is no other word of the contract.)
@@ -37,14 +37,15 @@ function fields_apart(where, s,    n, i, w, v, head, out) {
     return out
 }
 
-# a contract as a statement says it: x for what is lent as x, x' for the same at the end; of a returned part, what it holds. `.old` and `.new` are of what is lent to be changed, `.now` of what is
+# a contract as a statement says it: x for what is lent as x, x' for the same at the end; of a returned part, or of one that may be returned (`option_copied`), what it holds. `.old` and `.new` are of what is lent to be changed, `.now` of what is
 # lent to be read, and of the answer: anything else is amiss.
 function said(fn, s,    crate, n, i, w, out) {
     crate = fn
     sub(/:.*/, "", crate)
     n = split(fields_apart(crate, s), w, " ")
     for (i = 1; i <= n; i++) {
-        if (w[i + 1] == ".now" && index(read_only[fn] " result ", " " w[i] " ")) w[i + 1] = ""
+        if (w[i] == "option_copied" && w[i + 1] == "result") w[i] = ""
+        else if (w[i + 1] == ".now" && index(read_only[fn] " result ", " " w[i] " ")) w[i + 1] = ""
         else if (w[i + 1] == ".old" && index(changed[fn] " ", " " w[i] "' ")) w[i + 1] = ""
         else if (w[i + 1] == ".new" && index(changed[fn] " ", " " w[i] "' ")) { w[i] = w[i] "'"; w[i + 1] = "" }
         else if (w[i] ~ /^\.(old|new|now)$/) amiss(fn ": in its contract stands " w[i - 1] w[i] ", and it is not known what that is")
@@ -155,7 +156,7 @@ FILENAME ~ /\.rt$/ {
     clause = line ~ /^    (requires|ensures) / && !closed(line) ? line : ""
     if (clause != "") next
     if (line ~ /^ghost use /) { split(FILENAME, path, "/"); take_use(path[2], line) }
-    if (line ~ /^pub fn /) { sub(/<'[a-z]+>/, "", $3); open_function($3) } # a lifetime is no part of the name
+    if (line ~ /^pub fn /) { sub(/<.*/, "", $3); open_function($3) } # a lifetime or a type parameter is no part of the name
     if (fn == "") next
     if (line ~ /\{$/) { close_function(); next }
     if (line ~ /^    requires/) asks[fn] = 1
@@ -185,10 +186,11 @@ function answer_in(fn, conclusion,    w) {
     return index(" " contract[fn] changed[fn] " ", " " w[4] " ") ? "result" : w[4]
 }
 
-function is_data(type,    n, i, w, o) { # only words of data: no arrow, no equation
+function is_data(type,    n, i, w, o) { # only words of data, or of a type that is bound: no arrow, no equation
     n = split(type, w, " ")
     for (i = 1; i <= n; i++) {
         o = origin("claims", w[i])
+        if (index(types, " " w[i] " ")) continue
         if (w[i] !~ /^[()]$/ && !(o in data) && o !~ /\.specs\.declared\.[A-Za-z]+\.[A-Za-z]+$/) return 0
     }
     return n > 0
@@ -208,7 +210,8 @@ function binders(fn, s,    n, i, w, depth, names, type) {
             if (depth == 0) break
         }
         sub(/^ /, "", type)
-        if (is_data(type)) bound = bound names " "
+        if (type == "Type 0") { bound = bound names " "; types = types names " " }
+        else if (is_data(type)) bound = bound names " "
         else hypothesis(fn, type)
     }
     return n > 0
@@ -217,7 +220,7 @@ function binders(fn, s,    n, i, w, depth, names, type) {
 # the parts before the conclusion, and the conclusion
 function telescope(fn, s,    n, i, w, depth, part) {
     n = split(s, w, " ")
-    bound = " "
+    bound = types = " "
     part = ""
     for (i = 1; i <= n; i++) {
         depth += (w[i] ~ /^[({]$/) - (w[i] ~ /^[)}]$/)
@@ -284,7 +287,8 @@ function take_listed(    s, w) {
 BEGIN {
     split("- ₂ ₃ ₄ ₅", mark, " ")
     mark[1] = ""
-    data["Rattle.std.specs.Prelude.ℕ"] = data["Rattle.std.specs.Prelude.Bool"] = data["Rattle.std.specs.Prelude.List"] = data["Rattle.reach_row.specs.Row.Row"] = 1
+    data["Rattle.std.specs.Prelude.ℕ"] = data["Rattle.std.specs.Prelude.Bool"] = data["Rattle.std.specs.Prelude.List"] = data["Rattle.std.specs.Prelude.Result"] = 1
+    data["Rattle.reach_row.specs.Row.Row"] = data["Rattle.answers.specs.Answers.Verdict"] = 1
 }
 
 FNR == 1 { close_entry(); part = "" }

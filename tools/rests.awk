@@ -153,14 +153,14 @@ function take_code(line,    w) {
     if (line ~ /^ghost use /) take_use(line)
     if (line ~ /^use [a-z_]+::/) take_types(line)
     sub(/^pub /, "", line)
-    if (line ~ /^(struct|enum|type|fn) /) {
+    if (line ~ /^(struct|enum|trait|type|fn) /) {
         split(line, w, /[ (<;]+/)
         declare(w[2], w[1] == "fn" ? "function" : "type")
         place = "head"
     }
     if (place == "" || line ~ /^ *\/\//) return
     if (line !~ /^\{/) { lines[key]++; heads[key] = heads[key] "\n" line }
-    if (line ~ /^[{}]/ || (kind_of[key] == "function" && line ~ /\{$/) || line ~ /^type .*;/) place = ""
+    if (line ~ /^[{}]/ || (kind_of[key] == "function" && line ~ /\{$/) || line ~ /^(struct|type) .*;/) place = ""
 }
 
 FILENAME == "crates.txt" { if (sub(/:.*/, "") && /^[a-z_0-9]+$/) is_crate[$0] = 1; next }
@@ -194,7 +194,7 @@ function meaning(w,    m) {
 
 # of x.field, where x is no module, x is cited, and a field adds nothing
 function cite(w,    n, i, m, k) {
-    if (w ~ /^(\.|[0-9]|_$)/ || w in language) return
+    if (w ~ /^(\.|[0-9]|_$)/ || w in language || (is_code(file) && w ~ /^(Option|Result)$/)) return # in code these two need no `use`
     if (w ~ /^[^.]+\.[^.]/ && !((file, before(w, ".")) in module)) w = before(w, ".")
     m = meaning(w)
     if (m == "" && !(w in variable || (file, w) in adds_nothing)) amiss(path_of(file) ": " name_of(citing) " cites " w ", and it is not known what that is")
@@ -261,22 +261,24 @@ function walk_items(    n, i, w) {
     }
 }
 
-# the types that a line of code names; what an enum's line begins with is its own, and a name all in capitals is a number
+# the types that a line of code names, but for those that are the language's; what an enum's line begins with is its own, and a name all in capitals is a number
 function walk_types(line, skipped,    n, i, w) {
     gsub(/[^A-Za-z0-9_]+/, " ", line)
     n = split(line, w, " ")
-    for (i = 1 + skipped; i <= n; i++) if (w[i] ~ /^[A-Z].*[a-z]/) cite(w[i])
+    for (i = 1 + skipped; i <= n; i++) if (w[i] ~ /^[A-Z].*[a-z]/ && w[i] !~ /^(Option|Result|Fn|FnMut|FnOnce)$/) cite(w[i])
 }
 
-# first the signature, whose names the contract speaks of
+# first the signature, whose names the contract speaks of; a type parameter stands for any type, and its bound is the kit's
 function walk_code(    n, i, j, w, v) {
     n = split(heads[citing], w, "\n")
+    sub(/<[A-Z]: [A-Za-z]+>/, "", w[2])
     for (i = 2; i <= n; i++) if (w[i] !~ /^ *(requires|ensures) /) {
         walk_types(w[i], i > 2 && w[2] ~ /^enum /)
         for (j = split(w[i], v, /[ (,]+/); j > 0; j--) if (sub(/:$/, "", v[j])) variable[v[j]] = 1
     }
     variable["result"] = 1
-    for (i = 2; i <= n; i++) if (sub(/^ *(requires|ensures) [^{]*\{/, "", w[i])) { sub(/\}$/, "", w[i]); walk(w[i]) }
+    for (j = split(heads[citing], v, /[^A-Za-z0-9_]+/); j > 0; j--) if (v[j] ~ /^[A-Z]$/ || v[j - 1] == "ghost") variable[v[j]] = 1 # parameters, and a trait's own
+    for (i = 2; i <= n; i++) if (sub(/^ *((requires|ensures) [^{]*|ghost [a-z_]+: )\{/, "", w[i])) { sub(/\};?$/, "", w[i]); walk(w[i]) }
 }
 
 function signature(k,    s) {
@@ -516,7 +518,7 @@ BEGIN {
     for (i in w) language[w[i]] = 1
     split("≡ ≢ ≤ < ↔ ⊎ ⊥ ¬", w, " ")
     for (i in w) relation[w[i]] = 1
-    split("ℕ Bool List String Char", w, " ")
+    split("ℕ Bool List String Char Option Result", w, " ")
     for (i in w) kit_data[w[i]] = 1
     # the functions that others call, each with the definition of its outcome
     n = split("reader/src read_sheet reader/Reading reading writer/src write_sheet writer/Outcome WriteOutcome step/src step step/Outcome Outcome entry/src step_requests step/Outcome Outcome" \
@@ -526,6 +528,7 @@ BEGIN {
     # proofs that stand among definitions, and why
     excuse["claims/Demands" SUBSEP "*"] = "the theorems that an auditor reads first"
     excuse["claims/Functions" SUBSEP "*"] = "the theorems of every public function"
+    excuse["writer/Long" SUBSEP "*"] = "the laws that an impl of the code names, which can name none of proofs/"
 }
 
 END {

@@ -28,11 +28,7 @@ pub struct Refusal {
 }
 
 // What a judge says: nothing against it, or the refusal.
-#[derive(Clone, Copy)]
-pub enum Verdict {
-    Pass,
-    Refused(Refusal),
-}
+pub type Verdict = Result<(), Refusal>;
 
 // An answer in document 01's numbers.
 #[derive(Clone, Copy)]
@@ -47,8 +43,8 @@ pub fn refusal_of(name: Name, place: u32) -> Refusal
     ensures { result ≡ refusal name place }
 {
     Refusal {
-        name: name,
-        place: place,
+        name,
+        place,
         column: 0,
     }
 }
@@ -59,9 +55,9 @@ pub fn in_column(r: Refusal, column: usize) -> Refusal
 {
     let name = r.name;
     Refusal {
-        name: name,
+        name,
         place: r.place,
-        column: column,
+        column,
     }
 }
 
@@ -69,17 +65,15 @@ pub fn in_column(r: Refusal, column: usize) -> Refusal
 pub fn refuse(name: Name, place: u32) -> Verdict
     ensures { result ≡ refuse name place }
 {
-    Verdict::Refused(refusal_of(name, place))
+    Err(refusal_of(name, place))
 }
 
 // A later test is asked only where those before it pass.
 pub fn and_then(first: Verdict, later: Verdict) -> Verdict
     ensures { result ≡ and_then first later }
 {
-    match first {
-        Verdict::Pass => later,
-        Verdict::Refused(r) => Verdict::Refused(r),
-    }
+    first?;
+    later
 }
 
 // Document 01's number of a refusal.
@@ -105,12 +99,12 @@ pub fn answer_of(verdict: Verdict) -> Answer
     ensures { result ≡ answered verdict }
 {
     match verdict {
-        Verdict::Pass => Answer {
+        Ok(()) => Answer {
             number: 0,
             place: 0,
             column: 0,
         },
-        Verdict::Refused(r) => {
+        Err(r) => {
             let name = r.name;
             Answer {
                 number: number_of(name),

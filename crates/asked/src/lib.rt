@@ -15,22 +15,19 @@ use widths::index;
 pub fn add_asked(events: &mut [u16], asked: &[u8], n: u16)
     ensures { events.new ≡ joins events.old n (λ k. given_entry (request_at asked.now k)) }
 {
-    let mut k: u16 = 0;
-    while k < n {
+    for k in 0..n {
         let r = request_at(asked, k);
         join_where(events, r.delay == 0, index(r.event), r.priority);
-        k += 1;
     }
 }
 
 // Of the first n requests those with a delay join the waiting buffer.
+// Kept: one loop for this and `add_asked` would take test and place from closures, and be longer than the two.
 pub fn wait_asked(waiting: &mut [u16], asked: &[u8], n: u16, t: u32)
     ensures { waiting.new ≡ joins waiting.old n (λ k. wait_entry t (request_at asked.now k)) }
 {
-    let mut k: u16 = 0;
-    while k < n {
+    for k in 0..n {
         let r = request_at(asked, k);
         join_where(waiting, 0 < r.delay, place(t, r.delay, r.event), r.priority);
-        k += 1;
     }
 }

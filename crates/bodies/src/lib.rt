@@ -28,15 +28,7 @@ pub fn allows(triggers: &[u8], i: u16, roles: u64) -> bool
     ensures { result ≡ allows (roles_of roles) (trigger_at triggers.now i) }
 {
     let n = trigger_byte(triggers, i, CONDITION_COUNT);
-    let mut j: u8 = 0;
-    while j < n {
-        let c = condition(triggers, i, j);
-        if !holds(roles, c) {
-            return false;
-        }
-        j += 1;
-    }
-    true
+    (0..n).all(|j| holds(roles, condition(triggers, i, j)))
 }
 
 // The body of trigger i is met in the events buffer, which is also what blocks: each body event has a nonblocked member.
@@ -44,13 +36,5 @@ pub fn met(events: &[u16], triggers: &[u8], i: u16) -> bool
     ensures { result ≡ met (events_of events.now) (events_of events.now) (trigger_at triggers.now i) }
 {
     let n = trigger_byte(triggers, i, EVENT_COUNT);
-    let mut j: u8 = 0;
-    while j < n {
-        let e = event(triggers, i, j);
-        if !live(events, e) {
-            return false;
-        }
-        j += 1;
-    }
-    true
+    (0..n).all(|j| live(events, event(triggers, i, j)))
 }

@@ -2,16 +2,15 @@
 // is put together and printed.
 #![tactic(auto)]
 
-ghost use Rattle.std.specs.Prelude.{◌≡◌, ◌-◌, ◌%◌};
+ghost use Rattle.std.specs.Prelude.{◌≡◌, ◌-◌, ◌%◌, ◌<◌, length, OnOk};
 ghost use Rattle.cases.specs.Digits.{value_of, glyph_of, with_digit, number_of, as_form, fits_form};
 
 use answers::Answer;
 use tables::{Counts, byte};
 
-// What becomes of a run: it goes on, it ends, or its case is not in the form.
+// Why a run stops: it ends, or its case is not in the form.
 #[derive(Clone, Copy)]
-pub enum Run {
-    GoesOn,
+pub enum Stop {
     Ends,
     BadCase,
 }
@@ -19,6 +18,7 @@ pub enum Run {
 // ---- digits
 
 // The value of a digit; 16 if it is none.
+// Kept: `frames` has a digit too, but 0 for what is none, which a form has to tell apart; and a case is read by nothing that the comparison tries.
 fn digit(b: u8) -> u8
     ensures { result ≡ value_of b }
 {
@@ -60,10 +60,8 @@ pub fn value(line: &[u8], from: usize, to: usize) -> usize
     ensures { result ≡ number_of line.now from (to - from) }
 {
     let mut v: usize = 0;
-    let mut i = from;
-    while i < to {
+    for i in from..to {
         v = with_digit(v, byte(line, i));
-        i += 1;
     }
     v
 }
@@ -78,29 +76,14 @@ pub fn four(line: &[u8], from: u8) -> u16
 
 // ---- counts
 
-// A role count in a byte, as tables have it; the form has eight digits. A larger one becomes 255, which is over the limit as well.
-fn in_byte(x: usize) -> u8 {
-    if x > 255 {
-        return 255;
-    }
-    x as u8
-}
-
-// A count of rows in two bytes, as tables have it; the form has eight digits. A larger one becomes 65,535, which is over the limit as well.
-fn in_two(x: usize) -> u16 {
-    if x > 65535 {
-        return 65535;
-    }
-    x as u16
-}
-
-// The three counts of a case, the first of whose digits is at `from`.
+// The three counts of a case, the first of whose digits is at `from`. The form has eight digits for each. One that is larger than a table's
+// count becomes the largest there is, which is over the limit as well.
 pub fn counts_at(line: &[u8], from: u8) -> Counts {
     let at = from as usize;
     Counts {
-        roles: in_byte(value(line, at, at + 8)),
-        periodics: in_two(value(line, at + 9, at + 17)),
-        triggers: in_two(value(line, at + 18, at + 26)),
+        roles: u8::try_from(value(line, at, at + 8)).unwrap_or(u8::MAX),
+        periodics: u16::try_from(value(line, at + 9, at + 17)).unwrap_or(u16::MAX),
+        triggers: u16::try_from(value(line, at + 18, at + 26)).unwrap_or(u16::MAX),
     }
 }
 
@@ -120,59 +103,55 @@ fn is_as(b: u8, form: u8) -> bool
 fn fits(line: &[u8], form: &[u8]) -> bool
     ensures { result ≡ fits_form line.now form.now }
 {
-    let mut i: usize = 0;
-    while i < form.len() {
-        if !is_as(byte(line, i), byte(form, i)) {
-            return false;
-        }
-        i += 1;
-    }
-    true
+    (0..form.len()).all(|i| is_as(byte(line, i), byte(form, i)))
+}
+
+// A case goes on only where it is in the form.
+fn held(in_form: bool) -> Result<(), Stop> {
+    if in_form { Ok(()) } else { Err(Stop::BadCase) }
 }
 
 // Takes a line that is as the form asks, if there is room for it. At the end of the input the run ends.
-pub fn take_line(line: &mut [u8], form: &[u8]) -> Run {
+pub fn take_line(line: &mut [u8], form: &[u8]) -> Result<(), Stop> {
     let n = form.len();
-    if n <= line.len() {
-        let got = io::read_full(0, &mut line[0..n]);
-        if got == 0 {
-            return Run::Ends;
-        }
-        if (got == n) & fits(line, form) {
-            return Run::GoesOn;
-        }
+    if n > line.len() {
+        return Err(Stop::BadCase);
     }
-    Run::BadCase
+    let got = io::read_full(0, &mut line[0..n]);
+    if got == 0 {
+        return Err(Stop::Ends);
+    }
+    held((got == n) & fits(line, form))
 }
 
 // Takes n bytes of any values and a line's end, if there is room for them.
-pub fn take_text(text: &mut [u8], n: usize) -> bool {
-    if n < text.len() {
-        let got = io::read_full(0, &mut text[0..n + 1]);
-        return (got == n + 1) & (byte(text, n) == 10);
+pub fn take_text(text: &mut [u8], n: usize) -> Result<(), Stop>
+    ensures { OnOk result (n < length text.old) }
+{
+    if n >= text.len() {
+        return Err(Stop::BadCase);
     }
-    false
+    let got = io::read_full(0, &mut text[0..n + 1]);
+    held((got == n + 1) & (byte(text, n) == 10))
 }
 
 // Takes a line of at most 32 digits.
-fn take_digits(line: &mut [u8], digits: u8) -> bool {
+fn take_digits(line: &mut [u8], digits: u8) -> Result<(), Stop> {
     let form = [48u8; 32];
     let n = digits as usize;
-    if n <= 32 {
-        return take_text(line, n) & fits(line, &form[0..n]);
+    if n > form.len() {
+        return Err(Stop::BadCase);
     }
-    false
+    take_text(line, n)?;
+    held(fits(line, &form[0..n]))
 }
 
-// Takes a line of at most 8 digits; its number, or 4,294,967,296 if there is no such line.
-pub fn take_number(digits: u8) -> usize {
+// Takes a line of at most 8 digits; its number.
+pub fn take_number(digits: u8) -> Result<usize, Stop> {
     let mut line = [0u8; 33];
-    if digits <= 8 {
-        if take_digits(&mut line, digits) {
-            return value(&line, 0, digits as usize);
-        }
-    }
-    4294967296
+    held(digits <= 8)?;
+    take_digits(&mut line, digits)?;
+    Ok(value(&line, 0, digits as usize))
 }
 
 // One byte at `at`, if there is room; where the next one goes.
@@ -187,28 +166,22 @@ pub fn store(bytes: &mut [u8], at: usize, b: u8) -> usize {
 // The bytes that a line says, two digits each, from `at` on as far as there is room; where the next one goes.
 fn store_row(rows: &mut [u8], at: usize, line: &[u8], width: u8) -> usize {
     let mut next = at;
-    let mut j: u8 = 0;
-    while j < width {
+    for j in 0..width {
         let i = 2 * j as usize;
         next = store(rows, next, (value(line, i, i + 2) % 256) as u8);
-        j += 1;
     }
     next
 }
 
 // Takes a list of rows, each a line of at most 32 digits, and puts their bytes one behind the other as far as there is room.
-pub fn take_rows(rows: &mut [u8], count: u16, digits: u8) -> bool {
+pub fn take_rows(rows: &mut [u8], count: u16, digits: u8) -> Result<(), Stop> {
     let mut at: usize = 0;
-    let mut k: u16 = 0;
-    while k < count {
+    for _ in 0..count {
         let mut line = [0u8; 33];
-        if !take_digits(&mut line, digits) {
-            return false;
-        }
+        take_digits(&mut line, digits)?;
         at = store_row(rows, at, &line, digits / 2);
-        k += 1;
     }
-    true
+    Ok(())
 }
 
 // ---- what is put out
@@ -216,11 +189,9 @@ pub fn take_rows(rows: &mut [u8], count: u16, digits: u8) -> bool {
 // The last digits of a number, as many as there is room for.
 fn spell(out: &mut [u8], number: usize) {
     let mut x = number;
-    let mut i = out.len();
-    while 0 < i {
-        i -= 1;
-        out[i] = glyph(x);
-        x = x / 16;
+    for place in out.iter_mut().rev() {
+        *place = glyph(x);
+        x /= 16;
     }
 }
 
@@ -245,10 +216,8 @@ pub fn put(out: &mut [u8], at: usize, number: usize, digits: u8) -> usize {
 // A blank and the bytes of a row, two digits each, from `at` on; where the next byte goes.
 pub fn put_row(out: &mut [u8], at: usize, row: &[u8]) -> usize {
     let mut n = store(out, at, 32);
-    let mut j: usize = 0;
-    while j < row.len() {
-        n = put_digits(out, n, byte(row, j) as usize, 2);
-        j += 1;
+    for &b in row {
+        n = put_digits(out, n, b as usize, 2);
     }
     n
 }
@@ -259,25 +228,39 @@ pub fn put_answer(out: &mut [u8], answer: Answer) -> usize {
     put(out, n, answer.place as usize, 8)
 }
 
-// Prints what was put before n as a line, without the blank that it begins with.
-pub fn print(out: &mut [u8], n: usize) -> Run {
+// Prints what was put before n as a line, without the blank that it begins with. Where it is not printed the run ends.
+pub fn print(out: &mut [u8], n: usize) -> Result<(), Stop> {
     if n < out.len() {
         out[n] = 10;
         if io::write_all(1, &out[1..n + 1]) {
-            return Run::GoesOn;
+            return Ok(());
         }
     }
-    Run::Ends
+    Err(Stop::Ends)
 }
 
-// Whether the run goes on. That a case is not in the form is said in a line.
-pub fn goes_on(run: Run) -> bool {
-    match run {
-        Run::GoesOn => true,
-        Run::Ends => false,
-        Run::BadCase => {
-            io::write_all(1, b"bad case\n");
-            false
-        }
+// ---- the run
+
+// Takes cases until one stops the run, at most a thousand million: of each its head, a line that is as the form asks, and what comes of it.
+fn until_stop<const N: usize, F: FnMut(&[u8]) -> Result<(), Stop>>(
+    form: &[u8; N],
+    mut with_head: F,
+) -> Result<(), Stop>
+    requires { F.IsAlwaysCallable with_head }
+{
+    for _ in 0..1000000000 {
+        let mut head = [0u8; N];
+        take_line(&mut head, form)?;
+        with_head(&head)?;
+    }
+    Ok(())
+}
+
+// The cases, until the input ends or one is not in the form. That is said in a line.
+pub fn run<const N: usize, F: FnMut(&[u8]) -> Result<(), Stop>>(form: &[u8; N], with_head: F)
+    requires any_head { F.IsAlwaysCallable with_head }
+{
+    if let Err(Stop::BadCase) = until_stop(form, with_head) {
+        io::write_all(1, b"bad case\n");
     }
 }

@@ -5,7 +5,7 @@
 -- `step_requests` (entry/src), `day` (day_print/src), `write_sheet` (writer/src), `resend` (resend/src), and `faulty_line` with `faulty_part` (faulty_line/src). None of the eight asks anything of its caller. A few words that no crate below has are in `Words`.
 -- First the three demands of the base; then reading, the day, the P table and what is shut out; then the customer's change requests, one after the other.
 -- Assumes nothing.
-use Rattle.std.specs.Prelude.{◌≡◌, refl, ◌⊎◌, ◌↔◌, true, false, ◌&&◌, List, [], ◌∷◌, ◌++◌, map, ℕ, suc, ◌+◌, ◌*◌, ◌^◌, ◌≤◌, ◌<◌, leb, ltb, eqb, length, get_or, take, drop}
+use Rattle.std.specs.Prelude.{◌≡◌, refl, ◌⊎◌, ◌↔◌, true, false, ◌&&◌, List, [], ◌∷◌, ◌++◌, map, ℕ, suc, ◌+◌, ◌*◌, ◌^◌, ◌≤◌, ◌<◌, leb, ltb, eqb, length, get_or, take, drop, Err, Ok, Result}
 use Rattle.std.proofs.Common.{sym, ap, ◌∙◌, subst, inl, inr, ⊎_elim, arith}
 use Rattle.tables.specs.declared.Counts.{Counts}
 use Rattle.theory.specs.Numbers.{ROLES, EVENTS, LAST_INSTANT, SHEET_BYTES, WAITING_NUMBERS, LONGEST_PERIOD, BODY_EVENTS, BODY_CONDITIONS}
@@ -22,9 +22,7 @@ use Rattle.theory.proofs.Laws.OneSolution
 use Rattle.answers.specs.declared.Name.{Name}
 use Rattle.answers.specs.declared.Name.TheVariants.{Length as LENGTH, Kind as KIND, Loop as LOOP}
 use Rattle.answers.specs.declared.Refusal.{Refusal}
-use Rattle.answers.specs.declared.Verdict.{Verdict}
-use Rattle.answers.specs.declared.Verdict.TheVariants.{Pass, Refused}
-use Rattle.answers.specs.Answers.{number_of, answered, refusal}
+use Rattle.answers.specs.Answers.{number_of, answered, refusal, verdict_of, Verdict, pass}
 use Rattle.text.specs.Lines.{line, lines, all_lines}
 use Rattle.frames.specs.Frame.{bytes_of}
 use Rattle.kinds.specs.Kinds.{HEADER, PERIODIC, TRIGGER}
@@ -36,8 +34,6 @@ use Rattle.line_readers.specs.Walks.{refused as stopped}
 use Rattle.tables.specs.Layout.{PERIODIC_TABLE, TRIGGER_TABLE, byte_at, two, four}
 use Rattle.tables.specs.Buffers.{events_of, Narrow}
 use Rattle.tables.specs.Asked.{Asked}
-use Rattle.reader.specs.declared.Reading.TheVariants.{Good, Refused}
-use Rattle.reader.specs.Answer.{verdict_of}
 use Rattle.sheet_acts.specs.Acts.{Progress}
 use Rattle.reader.specs.Out.{ReadOutcome, read_outcome, sheet_read}
 use Rattle.reader.specs.Reading.{reading}
@@ -48,7 +44,6 @@ use Rattle.line_by_line.specs.ComesBack.{frames_before, RefusedAt, faulty_line, 
 use Rattle.line_by_line.proofs.Laws.Cut
 use Rattle.table_judge.specs.Judge.{judge_tables}
 use Rattle.table_judge.specs.Says.{Says}
-use Rattle.writer.specs.declared.Sent.{Sent}
 use Rattle.writer.specs.Outcome.{WriteOutcome}
 use Rattle.round_trips.specs.Order.{in_table_order, PeriodicsFirst, OnlyItsRows}
 use Rattle.tables.specs.Lent.{Rules, sheet_in, Lent, rules}
@@ -73,7 +68,6 @@ use Rattle.printed_frames.specs.Laws.Back as PrintedBack
 use Rattle.resend.specs.declared.Resent.{Resent}
 use Rattle.resend.specs.Resend.{ResendOutcome}
 use Rattle.day_lines.specs.Lines.{OUTPUT_BYTES}
-use Rattle.day_print.specs.declared.Printed.{Printed}
 use Rattle.day_print.specs.Day.{Prints, DayOutcome, written}
 use Rattle.examples.specs.Example.{Said}
 use Rattle.examples.specs.Table.{table}
@@ -95,7 +89,7 @@ use Rattle.claims.specs.Laws.Shut
 -- ==== DEMAND 1, TOTAL: whatever is given gets one of the listed answers, and a refusal changes nothing.
 
 -- OK is number 0, and each number of 1 to 10 is that of exactly one refusal; no refusal has another.
-pub ok_is_0 : (answered Pass).number ≡ 0
+pub ok_is_0 : (answered pass).number ≡ 0
 ok_is_0 = refl
 
 pub numbers_are : (n : ℕ) → 1 ≤ n → n ≤ 10 → ExactlyOne (λ (name : Name). number_of name ≡ n)
@@ -113,7 +107,7 @@ pub reader_total : (sheet p t : List ℕ) → ExactlyOne (λ (o : ReadOutcome). 
 reader_total sheet p t = (reading sheet p t, refl, λ o e. e)
 
 -- After a refusal the tables are as they came.
-pub reader_keeps : (sheet p t : List ℕ) (r : Refusal) → (reading sheet p t).answer ≡ Refused r → reading sheet p t ≡ read_outcome (Refused r) p t
+pub reader_keeps : (sheet p t : List ℕ) (r : Refusal) → (reading sheet p t).answer ≡ Err r → reading sheet p t ≡ read_outcome (Err r) p t
 reader_keeps = Reader.reader_keeps
 
 -- Any lent tables and counts, any requests, any instant, roles of 64 bits and buffers of 16-bit numbers, of whatever lengths, have exactly one outcome: an answer, and what is lent then.
@@ -121,19 +115,19 @@ pub step_total : (R : Rules) (q : Asked) (l : Lent) → l.roles < 2 ^ 64 → Nar
 step_total = There.step_total
 
 -- After a refusal the instant, the roles and both buffers are what they were. (The tables are lent to be read only.)
-pub step_keeps : (R : Rules) (q : Asked) (l a : Lent) (r : Refusal) → Outcome R q l (Refused r) a → a ≡ l
+pub step_keeps : (R : Rules) (q : Asked) (l a : Lent) (r : Refusal) → Outcome R q l (Err r) a → a ≡ l
 step_keeps R q l a r o = o.refused r refl
 
 -- Unused rows, and the event and condition places of a trigger past its counts, are ignored: two steps with the same counts, used rows, state and requests have the same outcome.
 pub unused_ignored : (R R' : Rules) → SameRules R R' → (q : Asked) (l : Lent) (v v' : Verdict) (a a' : Lent) → Outcome R q l v a → Outcome R' q l v' a' → (v ≡ v') × (a ≡ a')
 unused_ignored = Used.used_exact
 
--- Any input, with any lent buffer, has exactly one outcome: an answer with the number of bytes printed there, and what the buffer holds then.
-pub day_total : (input out : List ℕ) → ExactlyOne (λ (o : Printed × List ℕ). DayOutcome input out o.0 o.1)
+-- Any input, with any lent buffer, has exactly one outcome: an answer, on OK the number of bytes printed there, and what the buffer holds then.
+pub day_total : (input out : List ℕ) → ExactlyOne (λ (o : Result ℕ Refusal × List ℕ). DayOutcome input out o.0 o.1)
 day_total = There.day_total
 
 -- After a refusal, of the input or for the length of the buffer, nothing is printed there, and the buffer is what it was.
-pub day_keeps : (input out : List ℕ) (r : Printed) (out' : List ℕ) (x : Refusal) → DayOutcome input out r out' → r.verdict ≡ Refused x → (r.length ≡ 0) × (out' ≡ out)
+pub day_keeps : (input out out' : List ℕ) (x : Refusal) → DayOutcome input out (Err x) out' → out' ≡ out
 day_keeps = Day.day_keeps
 
 -- ==== DEMAND 2, EXACT: a sheet in good order is refused for a loop exactly when its graph has a cycle with a negative edge.
@@ -155,7 +149,7 @@ pub reader_loops : (sheet p t : List ℕ) (k : ℕ) → (answered (verdict_of (r
 reader_loops = Reader.reader_loops
 
 -- then the tables are as they came.
-pub reader_loop_keeps : (sheet p t : List ℕ) (s : Progress) → ReadsInOrder sheet p t s → (k : ℕ) → LoopAt (sheet_read s) k → reading sheet p t ≡ read_outcome (Refused (refusal LOOP k)) p t
+pub reader_loop_keeps : (sheet p t : List ℕ) (s : Progress) → ReadsInOrder sheet p t s → (k : ℕ) → LoopAt (sheet_read s) k → reading sheet p t ≡ read_outcome (Err (refusal LOOP k)) p t
 reader_loop_keeps = Reader.refuses_loop
 
 -- It is number 0 (OK) and place 0 exactly when they read in good order and have none;
@@ -163,7 +157,7 @@ pub reader_accepts : (sheet p t : List ℕ) → (answered (verdict_of (reading s
 reader_accepts = Reader.reader_accepts
 
 -- then what was read is handed out.
-pub reader_hands_out : (sheet p t : List ℕ) (s : Progress) → ReadsInOrder sheet p t s → NoLoop (sheet_read s) → reading sheet p t ≡ read_outcome (Good s.seen.counts) s.tables.periodics s.tables.triggers
+pub reader_hands_out : (sheet p t : List ℕ) (s : Progress) → ReadsInOrder sheet p t s → NoLoop (sheet_read s) → reading sheet p t ≡ read_outcome (Ok s.seen.counts) s.tables.periodics s.tables.triggers
 reader_hands_out = Reader.accepts_none
 
 -- A step's answer is number 8 and place k exactly when all that is tested before LOOP is in order and the loop of the lent rows is at k,
@@ -188,7 +182,7 @@ pub one_solution : (sh : Sheet) → GoodOrder sh → NoLoop sh → (ST : Roles) 
 one_solution = OneSolution.one_solution
 
 -- The events buffer after an accepted step holds it: what it holds solves the equation of the instant, and nothing else does.
-pub step_hands_it_out : (R : Rules) (q : Asked) (l a : Lent) → Outcome R q l Pass a → SolvesFor R q l (events_of a.events) × ((S : Events) → SolvesFor R q l S → S ≡ events_of a.events)
+pub step_hands_it_out : (R : Rules) (q : Asked) (l a : Lent) → Outcome R q l pass a → SolvesFor R q l (events_of a.events) × ((S : Events) → SolvesFor R q l S → S ≡ events_of a.events)
 step_hands_it_out = Exact.step_solves
 
 -- And exactly one buffer of 128 numbers of 16 bits holds it.
@@ -209,7 +203,7 @@ reader_says = Back.reader_says
 -- So a refusal at k with a name other than LENGTH and LOOP says, and is given exactly when: lines 1 to k − 1 pass all their tests, and line k fails the test of that name and passes those
 -- before it; or it is the last and has no final 0A, FRAME; or there is no line k and no end frame, KIND.
 pub reader_refuses : (sheet p t : List ℕ) (name : Name) (k : ℕ) → ¬ (name ≡ LENGTH) → ¬ (name ≡ LOOP)
-    → (reading sheet p t ≡ read_outcome (Refused (refusal_at (lines_in sheet) (rest_in sheet) name k)) p t)
+    → (reading sheet p t ≡ read_outcome (Err (refusal_at (lines_in sheet) (rest_in sheet) name k)) p t)
     ↔ (LengthsFit sheet p t × RefusedAt (lines_in sheet) (rest_in sheet) name k)
 reader_refuses = Back.reader_refuses
 
@@ -218,13 +212,13 @@ pub reader_whole : (sheet p t : List ℕ) → ((s : Progress) × ReadsInOrder sh
 reader_whole = Back.reader_whole
 
 -- On success the role count is the header's, the counts are those of the frames, and each table holds the rows of its frames in sheet order and is otherwise zero.
-pub reader_tables : (sheet p t : List ℕ) (r : Counts) (p' t' : List ℕ) → reading sheet p t ≡ read_outcome (Good r) p' t'
+pub reader_tables : (sheet p t : List ℕ) (r : Counts) (p' t' : List ℕ) → reading sheet p t ≡ read_outcome (Ok r) p' t'
     → (r ≡ counts_of (frames_in sheet)) × (p' ≡ periodic_table (frames_in sheet)) × (t' ≡ trigger_table (frames_in sheet))
 reader_tables = Back.reader_tables
 
 -- And what the reader accepts, the judge of a step passes.
-pub reading_passes : (sheet p t : List ℕ) (r : Counts) (p' t' : List ℕ) → reading sheet p t ≡ read_outcome (Good r) p' t'
-    → judge_tables (sheet_in (rules r p' t')) ≡ Pass
+pub reading_passes : (sheet p t : List ℕ) (r : Counts) (p' t' : List ℕ) → reading sheet p t ≡ read_outcome (Ok r) p' t'
+    → judge_tables (sheet_in (rules r p' t')) ≡ pass
 reading_passes = Accepted.reading_passes
 
 -- ==== THE DAY: an input prints exactly one thing, the refusal, or the lines of the paper's canonical execution model of its sheet and its tape (`Prints`).
@@ -239,22 +233,22 @@ one_day = There.one_day
 
 -- With a buffer of its exact length, what the program writes of the outcome (`written`) is that: the lines that stand in the buffer, or the line that `refusal_line` (printed_frames/src) makes of
 -- the refusal. Nothing else is.
-pub day_prints : (input out : List ℕ) (r : Printed) (out' : List ℕ) → length out ≡ OUTPUT_BYTES → DayOutcome input out r out'
+pub day_prints : (input out : List ℕ) (r : Result ℕ Refusal) (out' : List ℕ) → length out ≡ OUTPUT_BYTES → DayOutcome input out r out'
     → Prints (opening input) (written r out') × ((other : List ℕ) → Prints (opening input) other → other ≡ written r out')
 day_prints = Day.day_prints
 
 -- The answer is number 0 (OK), place 0 and column 0 exactly when the input opens: its sheet, its requests and its last instant are there.
-pub day_ok : (input out : List ℕ) (r : Printed) (out' : List ℕ) → length out ≡ OUTPUT_BYTES → DayOutcome input out r out'
-    → (answered r.verdict ≡ record { number = 0; place = 0; column = 0 }) ↔ ((sh : Sheet) × (RQ : Stream) × (last : ℕ) × (opening input ≡ opens sh RQ last))
+pub day_ok : (input out : List ℕ) (r : Result ℕ Refusal) (out' : List ℕ) → length out ≡ OUTPUT_BYTES → DayOutcome input out r out'
+    → (answered (verdict_of r) ≡ record { number = 0; place = 0; column = 0 }) ↔ ((sh : Sheet) × (RQ : Stream) × (last : ℕ) × (opening input ≡ opens sh RQ last))
 day_ok = Day.day_ok
 
 -- It is another number n, place k and column m exactly when the input is refused with that number, that place and that column.
-pub day_refuses : (input out : List ℕ) (r : Printed) (out' : List ℕ) → length out ≡ OUTPUT_BYTES → DayOutcome input out r out'
-    → (n k m : ℕ) → 1 ≤ n → (answered r.verdict ≡ record { number = n; place = k; column = m }) ↔ ((x : Refusal) × (opening input ≡ refused x) × (number_of x.name ≡ n) × (x.place ≡ k) × (x.column ≡ m))
+pub day_refuses : (input out : List ℕ) (r : Result ℕ Refusal) (out' : List ℕ) → length out ≡ OUTPUT_BYTES → DayOutcome input out r out'
+    → (n k m : ℕ) → 1 ≤ n → (answered (verdict_of r) ≡ record { number = n; place = k; column = m }) ↔ ((x : Refusal) × (opening input ≡ refused x) × (number_of x.name ≡ n) × (x.place ≡ k) × (x.column ≡ m))
 day_refuses = Day.day_refuses
 
 -- With a buffer of another length it is number 1 (LENGTH), place 0 and column 0.
-pub day_length : (input out : List ℕ) (r : Printed) (out' : List ℕ) → (length out ≡ OUTPUT_BYTES → ⊥) → DayOutcome input out r out' → answered r.verdict ≡ record { number = 1; place = 0; column = 0 }
+pub day_length : (input out : List ℕ) (r : Result ℕ Refusal) (out' : List ℕ) → (length out ≡ OUTPUT_BYTES → ⊥) → DayOutcome input out r out' → answered (verdict_of r) ≡ record { number = 1; place = 0; column = 0 }
 day_length = Day.day_length
 
 -- ==== THE P TABLE: every bench example that document 01 marks P says what is true.
@@ -265,12 +259,12 @@ p_table = all_say
 
 -- A box that refuses everything: the answer to the worked sheet is 0 and 0, and its rows are handed out.
 pub not_all_refused : (answered (verdict_of (reading worked_sheet no_periodics no_triggers).answer) ≡ record { number = 0; place = 0; column = 0 })
-    × (reading worked_sheet no_periodics no_triggers ≡ read_outcome (Good (record { roles = 3; periodics = 1; triggers = 2 })) worked.tables.periodics worked.tables.triggers)
+    × (reading worked_sheet no_periodics no_triggers ≡ read_outcome (Ok (record { roles = 3; periodics = 1; triggers = 2 })) worked.tables.periodics worked.tables.triggers)
 not_all_refused = (ap (λ (o : ReadOutcome). answered (verdict_of o.answer)) (Shut.is_worked).read, (Shut.is_worked).read)
 
 -- A test that passes everything: the answer to "enable 0 gives disable 0" is 8 and 0, and the tables are as they came.
 pub not_all_passed : (answered (verdict_of (reading looped no_periodics no_triggers).answer) ≡ record { number = 8; place = 0; column = 0 })
-    × (reading looped no_periodics no_triggers ≡ read_outcome (Refused (refusal LOOP 0)) no_periodics no_triggers)
+    × (reading looped no_periodics no_triggers ≡ read_outcome (Err (refusal LOOP 0)) no_periodics no_triggers)
 not_all_passed = (ap (λ (o : ReadOutcome). answered (verdict_of o.answer)) Looped.not_all_passed, Looped.not_all_passed)
 
 -- The first two minutes of the worked input can be run,
@@ -286,11 +280,11 @@ pub not_same_roles : (tables : ℕ → Rules) (before after : ℕ → Lent) → 
 not_same_roles = Shut.not_same_roles
 
 -- and in no step does the instant stay.
-pub not_same_instant : (R : Rules) (q : Asked) (l a : Lent) → Outcome R q l Pass a → a.instant ≡ suc l.instant
+pub not_same_instant : (R : Rules) (q : Asked) (l a : Lent) → Outcome R q l pass a → a.instant ≡ suc l.instant
 not_same_instant R q l a o = (o.passed refl).step.instant
 
 -- A made-up event count: the count of the buffer that is handed out, which `count` (roles_after/src) gives and a day prints, is that of whatever set solves the equation;
-pub count_is_the_solutions : (R : Rules) (q : Asked) (l a : Lent) → Outcome R q l Pass a → (S : Events) → SolvesFor R q l S → count_in (events_of a.events) ≡ count_in S
+pub count_is_the_solutions : (R : Rules) (q : Asked) (l a : Lent) → Outcome R q l pass a → (S : Events) → SolvesFor R q l S → count_in (events_of a.events) ≡ count_in S
 count_is_the_solutions R q l a o S s = sym (ap count_in ((Exact.step_solves R q l a o).1 S s))
 
 -- in the worked input's first two minutes 0, then 2.
@@ -299,58 +293,58 @@ counts_are = Shut.counts_are
 
 -- ==== REQUEST 1, SEND THE SHEET BACK OUT: what the writer answers, what it writes, and both round trips.
 
--- Any lent tables of bytes with any counts, and any lent buffer, of whatever lengths, have exactly one outcome: an answer with the number of bytes written, and what the buffer holds then.
-pub writer_total : (R : Rules) (out : List ℕ) → Narrow 8 R.tables.periodics → Narrow 8 R.tables.triggers → ExactlyOne (λ (o : Sent × List ℕ). WriteOutcome R out o.0 o.1)
+-- Any lent tables of bytes with any counts, and any lent buffer, of whatever lengths, have exactly one outcome: an answer, on OK the number of bytes written, and what the buffer holds then.
+pub writer_total : (R : Rules) (out : List ℕ) → Narrow 8 R.tables.periodics → Narrow 8 R.tables.triggers → ExactlyOne (λ (o : Result ℕ Refusal × List ℕ). WriteOutcome R out o.0 o.1)
 writer_total = Writer.writer_total
 
 -- After a refusal nothing is written, and the buffer is what it was. (The tables are lent to be read only.)
-pub writer_keeps : (R : Rules) (out : List ℕ) (r : Sent) (out' : List ℕ) (x : Refusal) → WriteOutcome R out r out' → r.verdict ≡ Refused x → (r.length ≡ 0) × (out' ≡ out)
-writer_keeps R out r out' x o e = (ap (λ (s : Sent). s.length) (o.refused x e).0, (o.refused x e).1)
+pub writer_keeps : (R : Rules) (out out' : List ℕ) (x : Refusal) → WriteOutcome R out (Err x) out' → out' ≡ out
+writer_keeps R out out' x o = o.refused x refl
 
 -- On OK what lies past the written length stays.
-pub writer_stays : (R : Rules) (out : List ℕ) (r : Sent) (out' : List ℕ) → WriteOutcome R out r out' → r.verdict ≡ Pass → (drop r.length out' ≡ drop r.length out) × (length out' ≡ length out)
+pub writer_stays : (R : Rules) (out : List ℕ) (n : ℕ) (out' : List ℕ) → WriteOutcome R out (Ok n) out' → (drop n out' ≡ drop n out) × (length out' ≡ length out)
 writer_stays = Writer.writer_stays
 
 -- Unused rows, and the event and condition places of a trigger past its counts, are neither tested nor written: tables that are the same in all that is used have the same outcome.
-pub writer_unused : (R R' : Rules) → SameRules R R' → (out : List ℕ) (r r' : Sent) (out' out'' : List ℕ) → WriteOutcome R out r out' → WriteOutcome R' out r' out'' → (r ≡ r') × (out' ≡ out'')
+pub writer_unused : (R R' : Rules) → SameRules R R' → (out : List ℕ) (r r' : Result ℕ Refusal) (out' out'' : List ℕ) → WriteOutcome R out r out' → WriteOutcome R' out r' out'' → (r ≡ r') × (out' ≡ out'')
 writer_unused = Writer.writer_used
 
 -- The answer is number 1 (LENGTH) and place 0 where a table or the buffer has not its exact length;
-pub writer_length : (R : Rules) (out : List ℕ) (r : Sent) (out' : List ℕ) → WriteOutcome R out r out' → ¬ WriteLengths R out → answered r.verdict ≡ record { number = 1; place = 0; column = 0 }
+pub writer_length : (R : Rules) (out : List ℕ) (r : Result ℕ Refusal) (out' : List ℕ) → WriteOutcome R out r out' → ¬ WriteLengths R out → answered (verdict_of r) ≡ record { number = 1; place = 0; column = 0 }
 writer_length = Writer.writer_length
 
 -- else it is the one verdict that says what is so of the tables (`Says`, table_judge/Says): TOO MANY at 0, FIELD at 0 for the role count or at the first bad row, LOOP at the pair, or OK.
-pub writer_says : (R : Rules) (out : List ℕ) (r : Sent) (out' : List ℕ) → WriteOutcome R out r out' → WriteLengths R out → (v : Verdict) → Says (sheet_in R) v ↔ (v ≡ r.verdict)
+pub writer_says : (R : Rules) (out : List ℕ) (r : Result ℕ Refusal) (out' : List ℕ) → WriteOutcome R out r out' → WriteLengths R out → (v : Verdict) → Says (sheet_in R) v ↔ (v ≡ verdict_of r)
 writer_says = Writer.writer_says
 
 -- That is a step's own answer, where the step meets neither LAST nor REQUEST: a step with the same tables, without requests, at an instant that is not above the last, with buffers of their lengths.
-pub writer_as_step : (R : Rules) (out : List ℕ) (r : Sent) (out' : List ℕ) → WriteOutcome R out r out' → WriteLengths R out
+pub writer_as_step : (R : Rules) (out : List ℕ) (r : Result ℕ Refusal) (out' : List ℕ) → WriteOutcome R out r out' → WriteLengths R out
     → (q : Asked) → q.count ≡ 0 → (l : Lent) → length l.waiting ≡ WAITING_NUMBERS → length l.events ≡ EVENTS → l.instant ≤ LAST_INSTANT
-    → (v : Verdict) (a : Lent) → Outcome R q l v a → r.verdict ≡ v
+    → (v : Verdict) (a : Lent) → Outcome R q l v a → verdict_of r ≡ v
 writer_as_step = Writer.writer_as_step
 
 -- So it is number 8 and place k exactly when the lengths are right, the rows are in good order and their loop is at k,
-pub writer_loops : (R : Rules) (out : List ℕ) (r : Sent) (out' : List ℕ) → WriteOutcome R out r out'
-    → (k : ℕ) → (answered r.verdict ≡ record { number = 8; place = k; column = 0 }) ↔ (WriteLengths R out × GoodOrder (sheet_in R) × LoopAt (sheet_in R) k)
+pub writer_loops : (R : Rules) (out : List ℕ) (r : Result ℕ Refusal) (out' : List ℕ) → WriteOutcome R out r out'
+    → (k : ℕ) → (answered (verdict_of r) ≡ record { number = 8; place = k; column = 0 }) ↔ (WriteLengths R out × GoodOrder (sheet_in R) × LoopAt (sheet_in R) k)
 writer_loops = Writer.writer_loops
 
 -- and number 0 and place 0 exactly when the lengths are right, the rows are in good order and there is no loop.
-pub writer_ok : (R : Rules) (out : List ℕ) (r : Sent) (out' : List ℕ) → WriteOutcome R out r out'
-    → (answered r.verdict ≡ record { number = 0; place = 0; column = 0 }) ↔ (WriteLengths R out × GoodOrder (sheet_in R) × NoLoop (sheet_in R))
+pub writer_ok : (R : Rules) (out : List ℕ) (r : Result ℕ Refusal) (out' : List ℕ) → WriteOutcome R out r out'
+    → (answered (verdict_of r) ≡ record { number = 0; place = 0; column = 0 }) ↔ (WriteLengths R out × GoodOrder (sheet_in R) × NoLoop (sheet_in R))
 writer_ok = Writer.writer_ok
 
 -- Every written sheet fits: it has at most 12,692 bytes.
-pub writer_fits : (R : Rules) (out : List ℕ) (r : Sent) (out' : List ℕ) → WriteOutcome R out r out' → r.verdict ≡ Pass → r.length ≤ 12692
+pub writer_fits : (R : Rules) (out : List ℕ) (n : ℕ) (out' : List ℕ) → WriteOutcome R out (Ok n) out' → n ≤ 12692
 writer_fits = RoundTrips.written_short
 
 -- Its lines are in table order: the header, the periodic rows, the triggers, the end.
-pub writer_in_order : (R : Rules) (out : List ℕ) (r : Sent) (out' : List ℕ) → WriteOutcome R out r out' → r.verdict ≡ Pass → in_table_order (lines_in (take r.length out')) ≡ lines_in (take r.length out')
+pub writer_in_order : (R : Rules) (out : List ℕ) (n : ℕ) (out' : List ℕ) → WriteOutcome R out (Ok n) out' → in_table_order (lines_in (take n out')) ≡ lines_in (take n out')
 writer_in_order = RoundTrips.written_order
 
 -- READING WHAT WAS WRITTEN: the reader accepts the written bytes, and hands out the same counts, and tables that are the same in every used row and place, in the same order, and zero in every other.
-pub reads_what_was_written : (R : Rules) (out : List ℕ) (r : Sent) (out' : List ℕ) → WriteOutcome R out r out' → r.verdict ≡ Pass
+pub reads_what_was_written : (R : Rules) (out : List ℕ) (n : ℕ) (out' : List ℕ) → WriteOutcome R out (Ok n) out'
     → (p t : List ℕ) → length p ≡ PERIODIC_TABLE → length t ≡ TRIGGER_TABLE
-    → (R' : Rules) × (reading (take r.length out') p t ≡ read_outcome (Good R'.counts) R'.tables.periodics R'.tables.triggers) × OnlyItsRows R R'
+    → (R' : Rules) × (reading (take n out') p t ≡ read_outcome (Ok R'.counts) R'.tables.periodics R'.tables.triggers) × OnlyItsRows R R'
 reads_what_was_written = RoundTrips.reads_what_was_written
 
 -- WRITING WHAT WAS READ: every accepted sheet is sent back, as exactly one text (`SentBack`, Words): what the writer writes of what the reader handed out.
@@ -367,51 +361,53 @@ writes_the_same = RoundTrips.sent_same
 
 -- THE READER IS COMPLETE: every sheet in good order without a loop, its rows being numbers, has bytes that the reader accepts as just that sheet.
 pub reader_complete : (sh : Sheet) → GoodOrder sh → NoLoop sh → (p t : List ℕ) → length p ≡ PERIODIC_TABLE → length t ≡ TRIGGER_TABLE
-    → (sheet : List ℕ) × (R : Rules) × (reading sheet p t ≡ read_outcome (Good R.counts) R.tables.periodics R.tables.triggers) × SameUsed sh (sheet_in R)
+    → (sheet : List ℕ) × (R : Rules) × (reading sheet p t ≡ read_outcome (Ok R.counts) R.tables.periodics R.tables.triggers) × SameUsed sh (sheet_in R)
 reader_complete = RoundTrips.reader_complete
 
 -- READ AND WRITTEN AGAIN in one call, a sheet alone or before a tape: any input, with any lent buffer, has exactly one outcome.
-pub resend_total : (input out : List ℕ) → ExactlyOne (λ (o : Resent × List ℕ). ResendOutcome input out o.0 o.1)
+pub resend_total : (input out : List ℕ) → ExactlyOne (λ (o : Result Resent Refusal × List ℕ). ResendOutcome input out o.0 o.1)
 resend_total = RoundTrips.resend_total
 
 -- With an input and a buffer of their lengths the verdict is the reader's on the input's sheet;
-pub resend_verdict : (input out : List ℕ) (r : Resent) (out' : List ℕ) → ResendOutcome input out r out'
-    → (length input ≤ INPUT_BYTES) × (length out ≡ SHEET_BYTES) → r.verdict ≡ verdict_of (sheet_reading input).answer
+pub resend_verdict : (input out : List ℕ) (r : Result Resent Refusal) (out' : List ℕ) → ResendOutcome input out r out'
+    → (length input ≤ INPUT_BYTES) × (length out ≡ SHEET_BYTES) → verdict_of r ≡ verdict_of (sheet_reading input).answer
 resend_verdict = RoundTrips.resend_verdict
 
 -- else the answer is number 1 (LENGTH) and place 0.
-pub resend_length : (input out : List ℕ) (r : Resent) (out' : List ℕ) → ResendOutcome input out r out'
-    → ¬ ((length input ≤ INPUT_BYTES) × (length out ≡ SHEET_BYTES)) → answered r.verdict ≡ record { number = 1; place = 0; column = 0 }
+pub resend_length : (input out : List ℕ) (r : Result Resent Refusal) (out' : List ℕ) → ResendOutcome input out r out'
+    → ¬ ((length input ≤ INPUT_BYTES) × (length out ≡ SHEET_BYTES)) → answered (verdict_of r) ≡ record { number = 1; place = 0; column = 0 }
 resend_length = RoundTrips.resend_length
 
 -- After a refusal nothing is written, and the buffer is what it was.
-pub resend_keeps : (input out : List ℕ) (r : Resent) (out' : List ℕ) → ResendOutcome input out r out' → (x : Refusal) → r.verdict ≡ Refused x → (r.length ≡ 0) × (out' ≡ out)
+pub resend_keeps : (input out : List ℕ) (x : Refusal) (out' : List ℕ) → ResendOutcome input out (Err x) out' → out' ≡ out
 resend_keeps = RoundTrips.resend_keeps
 
 -- On OK the sheet's lines in table order, each as it stood, are written, and from the byte `from` on the input is all that follows its sheet;
-pub resend_writes : (input out : List ℕ) (r : Resent) (out' : List ℕ) → ResendOutcome input out r out' → r.verdict ≡ Pass
-    → (take r.length out' ≡ joined (in_table_order (lines_in (sheet_part input)))) × (drop r.from input ≡ tape_part input)
+pub resend_writes : (input out : List ℕ) (s : Resent) (out' : List ℕ) → ResendOutcome input out (Ok s) out'
+    → (take s.length out' ≡ joined (in_table_order (lines_in (sheet_part input)))) × (drop s.from input ≡ tape_part input)
 resend_writes = RoundTrips.resend_writes
 
 -- what lies past the written length stays;
-pub resend_stays : (input out : List ℕ) (r : Resent) (out' : List ℕ) → ResendOutcome input out r out' → r.verdict ≡ Pass → (drop r.length out' ≡ drop r.length out) × (length out' ≡ length out)
+pub resend_stays : (input out : List ℕ) (s : Resent) (out' : List ℕ) → ResendOutcome input out (Ok s) out' → (drop s.length out' ≡ drop s.length out) × (length out' ≡ length out)
 resend_stays = RoundTrips.resend_stays
 
 -- and where all periodic frames stand before the triggers, the sheet's own bytes are written.
-pub resend_same : (input out : List ℕ) (r : Resent) (out' : List ℕ) → ResendOutcome input out r out' → r.verdict ≡ Pass → PeriodicsFirst (lines_in (sheet_part input))
-    → take r.length out' ≡ sheet_part input
+pub resend_same : (input out : List ℕ) (s : Resent) (out' : List ℕ) → ResendOutcome input out (Ok s) out' → PeriodicsFirst (lines_in (sheet_part input))
+    → take s.length out' ≡ sheet_part input
 resend_same = RoundTrips.resend_same
 
 -- An example, and what shuts out a writer that writes nothing: of the worked sheet's tables the worked sheet's own bytes are written.
-pub worked_is_written : (out : List ℕ) → length out ≡ SHEET_BYTES → (r : Sent) (out' : List ℕ) → WriteOutcome worked out r out' → take r.length out' ≡ worked_sheet
-worked_is_written out whole r out' o = (RoundTrips.writes_what_was_read worked_sheet no_periodics no_triggers _ _ _ (Shut.is_worked).read out whole r out' o).1 ∙ RoundTrips.worked_in_order
+pub worked_is_written : (out : List ℕ) → length out ≡ SHEET_BYTES → (r : Result ℕ Refusal) (out' : List ℕ) → WriteOutcome worked out r out' → (n : ℕ) × (r ≡ Ok n) × (take n out' ≡ worked_sheet)
+worked_is_written out whole r out' o =
+    let w = RoundTrips.writes_what_was_read worked_sheet no_periodics no_triggers _ _ _ (Shut.is_worked).read out whole out' r o in
+    (w.0, w.1, w.2 ∙ RoundTrips.worked_in_order)
 
 -- ==== REQUEST 2, SHOW ME THE LINE AND THE COLUMN: what the column of a refusal says (`ColumnSays`, line_readers/Says), the line for the screen (`faulty_part`, faulty_line/Part), and E0. `reading`, `opening` and
 -- what a day prints hold the column, so that the theorems above say that it is the one.
 
 -- The column of a sheet's refusal, in the line of its place: FRAME, the first character that is no digit, all before it are; or, where all are, one past the last. CHECK, the last digit but one.
 -- FIELD, the first digit of a field that is outside its limit while all fields before it are within. Any other, LENGTH and LOOP among them, 0.
-pub reader_column : (sheet p t : List ℕ) (r : Refusal) → reading sheet p t ≡ read_outcome (Refused r) p t
+pub reader_column : (sheet p t : List ℕ) (r : Refusal) → reading sheet p t ≡ read_outcome (Err r) p t
     → ColumnSays r.name (faulty_line (lines_in sheet) (rest_in sheet) r.place)
     (FieldColumn (role_count (frames_before (lines_in sheet) r.place)) (bytes_of (faulty_line (lines_in sheet) (rest_in sheet) r.place))) r.column
 reader_column = Columns.reader_column
@@ -483,7 +479,7 @@ pub lines_of_both : (input : List ℕ) → both_lines (sheet_part input) (tape_p
 lines_of_both = SplitLines.both_lines_lem
 
 -- The same of a sheet that the reader refuses, whatever tape is beside it.
-pub reader_shows : (sheet tape : List ℕ) (r : Refusal) (p t : List ℕ) → reading sheet p t ≡ read_outcome (Refused r) p t → ¬ (r.column ≡ 0) → Shows sheet tape r
+pub reader_shows : (sheet tape : List ℕ) (r : Refusal) (p t : List ℕ) → reading sheet p t ≡ read_outcome (Err r) p t → ¬ (r.column ≡ 0) → Shows sheet tape r
 reader_shows = Columns.reader_shows
 
 -- And of any refusal of an input that is at a line, with a column or without: the line is there, or it is the one after the last, where an end is missing.

@@ -3,7 +3,7 @@
 -- equation, else the theorem of its crate. The gate holds the list to the code, by `tools/listed`: every public function stands here, and the
 -- theorem below its name is its contract, word for word. At the end are the hypotheses that some theorems have, the functions that ask something of their callers, and the exceptions.
 -- Assumes nothing.
-use Rattle.std.specs.Prelude.{◌≡◌, Bool, false, ◌&&◌, ◌||◌, List, ℕ, ◌+◌, ◌*◌, ◌≤◌, ◌<◌, eqb, drop, get_or, length}
+use Rattle.std.specs.Prelude.{◌≡◌, Bool, false, ◌&&◌, ◌||◌, List, ℕ, ◌+◌, ◌*◌, ◌≤◌, ◌<◌, eqb, drop, get_or, length, Result}
 use Rattle.std.proofs.Common.{ap}
 use Rattle.std.proofs.Math.Seq.{paste}
 use Rattle.theory.specs.Below.{any_below, count_below, one, first_failing}
@@ -16,9 +16,8 @@ use Rattle.theory.specs.Sheet.{GoodOrder, of_roles, periodic_tests, periodic_fit
 use Rattle.theory.proofs.Laws.Exact.{exact}
 use Rattle.answers.specs.declared.Name.{Name}
 use Rattle.answers.specs.declared.Refusal.{Refusal}
-use Rattle.answers.specs.declared.Verdict.{Verdict}
 use Rattle.line_readers.specs.declared.Tests.{Tests}
-use Rattle.answers.specs.Answers.{and_then, answered, in_column, number_of, refusal, refuse}
+use Rattle.answers.specs.Answers.{and_then, answered, in_column, number_of, refusal, refuse, Verdict}
 use Rattle.line_readers.specs.Column.{in_line}
 use Rattle.line_readers.specs.Order.{in_order}
 use Rattle.faulty_line.specs.Part.{faulty_part, shown}
@@ -42,7 +41,7 @@ use Rattle.loops.specs.Tested.{tested}
 use Rattle.row_judge.specs.Judge.{judge_rows}
 use Rattle.table_judge.specs.Judged.{judged, loop_judged}
 use Rattle.text.specs.Framed.{framed, frame_column}
-use Rattle.text.specs.Lines.{lines, span}
+use Rattle.text.specs.Lines.{lines, first_ended, span}
 use Rattle.frames.specs.Frame.{bytes_of, checked}
 use Rattle.prints.specs.Print.{line_of}
 use Rattle.printed_frames.specs.Frames.{minute_frame, refusal_line}
@@ -55,7 +54,6 @@ use Rattle.fields.specs.Fields.{frame_fits, bad_byte}
 use Rattle.sheet_tests.specs.declared.Seen.{Seen}
 use Rattle.sheet_tests.specs.Judge.{judge_line}
 use Rattle.sheet_acts.specs.Acts.{after, progress}
-use Rattle.reader.specs.declared.Reading.{Reading}
 use Rattle.reader.specs.Answer.{verdict_of}
 use Rattle.reader.specs.Out.{read_outcome}
 use Rattle.reader.specs.Reading.{reading}
@@ -63,6 +61,7 @@ use Rattle.writer.specs.Outcome.{WriteOutcome}
 use Rattle.requests.specs.declared.Request.{Request}
 use Rattle.requests.specs.Asked.{request_of}
 use Rattle.requests.specs.Requests.{fits, judge_requests}
+use Rattle.requests.specs.Flat.{put_at}
 use Rattle.asked.specs.Adds.{given_entry, wait_entry}
 use Rattle.step_tests.specs.Order.{exact_lengths, judge_first}
 use Rattle.instant.specs.Acted.{Acted}
@@ -187,6 +186,10 @@ pub conflicts_conflict : (e : ℕ) → Exact (λ r. r ≡ conf e)
 conflicts_conflict e r r' = exact
 
 -- ---- tables
+
+-- tables::at_or
+pub tables_at_or : {T : Type 0} (items : List T) (i : ℕ) (past : T) → Exact (λ r. r ≡ get_or items i past)
+tables_at_or items i past r r' = exact
 
 -- tables::byte
 pub tables_byte : (table : List ℕ) (i : ℕ) → Exact (λ r. r ≡ byte_at table i)
@@ -324,6 +327,10 @@ table_judge_judge counts periodics triggers r r' = exact
 pub text_line_end : (text : List ℕ) (at : ℕ) → Exact (λ r. r ≡ at + span (drop at text))
 text_line_end text at r r' = exact
 
+-- text::line_at
+pub text_line_at : (text : List ℕ) (at : ℕ) → Exact (λ r. r ≡ first_ended (lines (drop at text)))
+text_line_at text at r r' = exact
+
 -- text::is_framed
 pub text_is_framed : (line : List ℕ) → Exact (λ r. r ≡ framed line)
 text_is_framed line r r' = exact
@@ -444,7 +451,7 @@ sheet_acts_act = sheet-acts.act_exact
 -- ---- reader
 
 -- reader::verdict_of
-pub reader_verdict_of : (reading : Reading) → Exact (λ r. r ≡ verdict_of reading)
+pub reader_verdict_of : (reading : Result Counts Refusal) → Exact (λ r. r ≡ verdict_of reading)
 reader_verdict_of reading r r' = exact
 
 -- reader::read_sheet
@@ -538,6 +545,10 @@ roles_after_count events r r' = exact
 -- requests::request_at
 pub requests_request_at : (asked : List ℕ) (k : ℕ) → Exact (λ r. request_of r ≡ request_at asked k)
 requests_request_at = requests.request_at_exact
+
+-- requests::put
+pub requests_put : (numbers : List ℕ) (i : ℕ) (r : Request) → Exact (λ numbers'. numbers' ≡ put_at numbers i (request_of r))
+requests_put numbers i r l l' = exact
 
 -- requests::request_fits
 pub requests_request_fits : (roles : ℕ) (r : Request) → Exact (λ t. t ≡ fits roles (request_of r))
@@ -662,11 +673,12 @@ day_print_day = day-print.day_exact
 -- ==== WHAT SOME ASK. These are public only because a crate ends there: each asks something of its callers, the functions named, which have shown it. Each is exact as it stands above,
 -- whatever it is called with. Whoever uses the box calls reader::read_sheet, writer::write_sheet, step::step, entry::step_requests, resend::resend,
 -- faulty_line::faulty_line, faulty_line::faulty_part or day_print::day, which ask nothing.
--- tables::copy_in asks that the row fits: sheet_acts::put_periodic, sheet_acts::put_trigger, reader::copy_out.
+-- tables::copy_in asks that the row fits: sheet_acts::put_periodic, sheet_acts::put_trigger.
 -- prints::put_line asks that the line fits: printed_frames::refusal_line, writer::put, day_print::run.
 -- keys::chains asks for at most 256 triggers: solver::by_keys.
 -- keys::next asks for a key below 257: solver::by_keys.
--- turns::settle asks for an events buffer of 128 numbers, a key that is not 0, and chained triggers: solver::by_keys.
+-- turns::settle asks for a key that is not 0, and chained triggers: solver::by_keys. (That the events are 128 numbers, their type says.)
+-- requests::put asks for a place below 32: entry::flatten.
 -- sheet_acts::act asks for room for the frame's row and for tables of their lengths: reader::take, once the line's tests passed.
 -- instant::act asks for an instant that is not above the last: step::step_within, once LAST was tested.
 -- tape::read_tape asks for at most 65,536 bytes, and as many lines before them: day_input::open_tape, once LENGTH was tested.

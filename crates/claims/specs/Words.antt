@@ -1,7 +1,7 @@
 -- Words of the demands that no crate below has as one: a sheet that reads in good order to its end, a step that is in order but for loops and requests, what is lent to the writer, a sheet that is read and
 -- written, the equation of what is lent, the count of events, a refusal that is shown, and the examples that shut wrong boxes out.
 -- Assumes nothing.
-use Rattle.std.specs.Prelude.{◌≡◌, true, cond, List, [], ◌∷◌, ℕ, suc, ◌≤◌, ◌<◌, eqb, length, get_or, take, replicate}
+use Rattle.std.specs.Prelude.{◌≡◌, true, cond, List, [], ◌∷◌, ℕ, suc, ◌≤◌, ◌<◌, eqb, length, get_or, take, replicate, Err, Ok}
 use Rattle.theory.specs.Numbers.{EVENTS, LAST_INSTANT, REQUESTS, SHEET_BYTES, WAITING_NUMBERS}
 use Rattle.theory.specs.Below.{count_below}
 use Rattle.theory.specs.Events.{Events, nonblocked}
@@ -10,9 +10,7 @@ use Rattle.theory.specs.Instant.{Solves}
 use Rattle.theory.specs.Box.{givens}
 use Rattle.answers.specs.declared.Name.TheVariants.{Frame, Check, Kind, Field}
 use Rattle.answers.specs.declared.Refusal.{Refusal}
-use Rattle.answers.specs.declared.Verdict.{Verdict}
-use Rattle.answers.specs.declared.Verdict.TheVariants.{Pass}
-use Rattle.answers.specs.Answers.{answered, refusal}
+use Rattle.answers.specs.Answers.{answered, refusal, Verdict}
 use Rattle.text.specs.Lines.{lines}
 use Rattle.tables.specs.Layout.{PERIODIC_TABLE, TRIGGER_TABLE, padded}
 use Rattle.tables.specs.Buffers.{roles_of}
@@ -20,10 +18,8 @@ use Rattle.tables.specs.Asked.{Request, Asked, asks}
 use Rattle.line_readers.specs.Walks.{goes}
 use Rattle.sheet_acts.specs.Acts.{Progress}
 use Rattle.reader.specs.Lines.{reads}
-use Rattle.reader.specs.declared.Reading.TheVariants.{Good, Refused}
 use Rattle.reader.specs.Out.{read_outcome}
 use Rattle.reader.specs.Reading.{start, sheet_lengths_fit, reading}
-use Rattle.writer.specs.declared.Sent.{Sent}
 use Rattle.writer.specs.Outcome.{WriteOutcome}
 use Rattle.tables.specs.Lent.{Rules, rules, sheet_in, Lent, state_in}
 use Rattle.day_split.specs.Split.{sheet_part}
@@ -58,13 +54,12 @@ pub record SentBack (sheet text : List ℕ) : Type 0 where
   pub lent_periodics : List ℕ
   pub lent_triggers : List ℕ
   pub handed : Rules
-  pub read : reading sheet lent_periodics lent_triggers ≡ read_outcome (Good handed.counts) handed.tables.periodics handed.tables.triggers
+  pub read : reading sheet lent_periodics lent_triggers ≡ read_outcome (Ok handed.counts) handed.tables.periodics handed.tables.triggers
   pub before : List ℕ
-  pub sent : Sent
+  pub sent : ℕ
   pub after : List ℕ
-  pub written : WriteOutcome handed before sent after
-  pub passed : sent.verdict ≡ Pass
-  pub bytes : text ≡ take sent.length after
+  pub written : WriteOutcome handed before (Ok sent) after
+  pub bytes : text ≡ take sent after
 
 -- S solves the equation of what is lent: of its rows, of the roles before the instant, and of the givens.
 abbrev pub SolvesFor : Rules → Asked → Lent → Events → Type 0
@@ -138,4 +133,4 @@ mistyped =
 -- each of these sheets is refused so
 abbrev pub EachRefused : List (List ℕ × Refusal) → Type 0
 EachRefused [] = Unit {0}
-EachRefused (x ∷ xs) = (reading x.0 no_periodics no_triggers ≡ read_outcome (Refused x.1) no_periodics no_triggers) × EachRefused xs
+EachRefused (x ∷ xs) = (reading x.0 no_periodics no_triggers ≡ read_outcome (Err x.1) no_periodics no_triggers) × EachRefused xs

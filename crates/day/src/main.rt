@@ -1,20 +1,16 @@
 // The day program: it reads an input and writes its day. No contract says what is read or written; what is to be believed stands in `day_print`.
 #![tactic(auto)]
 
-use answers::Verdict;
-
 // Prints the day of an input, by way of a buffer that is lent for it: what stands at its front, or the line of the refusal.
 fn print(input: &[u8], out: &mut [u8]) {
     let printed = day_print::day(input, out);
-    let n = printed.length;
-    let verdict = printed.verdict;
-    match verdict {
-        Verdict::Pass => {
+    match printed {
+        Ok(n) => {
             if n <= out.len() {
                 io::write_all(1, &out[0..n]);
             }
         }
-        Verdict::Refused(r) => {
+        Err(r) => {
             io::write_all(1, &printed_frames::refusal_line(r));
         }
     }

@@ -6,9 +6,7 @@ ghost use Rattle.day_input.specs.Opening.{INPUT_BYTES};
 ghost use Rattle.day_input.specs.Planned.{planned, by_reading, by_tape, Zeros, opened};
 
 use answers::{Name, Refusal};
-use reader::Reading;
 use tables::Counts;
-use tape::Taken;
 
 // An input has at most so many bytes.
 pub const INPUT_BYTES: usize = 65536;
@@ -21,51 +19,38 @@ pub struct Plan {
     pub last: u32,
 }
 
-// The answer to an input.
-#[derive(Clone, Copy)]
-pub enum Opened {
-    Opens(Plan),
-    Refused(Refusal),
-}
-
 // The tape, after the sheet passed: it begins at the byte `from`, after so many lines.
-fn open_tape(tape: &[u8], counts: Counts, from: usize, before: usize) -> Opened
+fn open_tape(tape: &[u8], counts: Counts, from: usize, before: usize) -> Result<Plan, Refusal>
     requires { (length tape.now ≤ INPUT_BYTES) × (before ≤ INPUT_BYTES) }
     ensures { result ≡ by_tape tape.now counts from before }
 {
-    let w = tape::read_tape(tape, counts.roles, before as u32);
-    match w {
-        Taken::Goes(s) => Opened::Opens(Plan {
-            counts: counts,
-            from: from,
-            last: s.last,
-        }),
-        Taken::Refused(x) => Opened::Refused(x),
-    }
+    let s = tape::read_tape(tape, counts.roles, before as u32)?;
+    Ok(Plan {
+        counts,
+        from,
+        last: s.last,
+    })
 }
 
 // The sheet, and then the tape, of an input that is within its limit.
-fn open_within(input: &[u8], periodics: &mut [u8], triggers: &mut [u8]) -> Opened
+fn open_within(input: &[u8], periodics: &mut [u8], triggers: &mut [u8]) -> Result<Plan, Refusal>
     requires { (length input.now ≤ INPUT_BYTES) × Zeros periodics.old triggers.old }
     ensures { opened result periodics.new triggers.new ≡ by_reading input.now }
 {
     let p = day_split::split(input);
     let from = p.bytes;
     let before = p.lines;
-    let reading = reader::read_sheet(&input[0..from], periodics, triggers);
-    match reading {
-        Reading::Good(counts) => open_tape(&input[from..input.len()], counts, from, before),
-        Reading::Refused(x) => Opened::Refused(x),
-    }
+    let counts = reader::read_sheet(&input[0..from], periodics, triggers)?;
+    open_tape(&input[from..input.len()], counts, from, before)
 }
 
 // Opens an input: LENGTH, then the whole sheet, then the tape. (For `day_print` alone, which lends its own tables, all zero.)
-pub fn open(input: &[u8], periodics: &mut [u8], triggers: &mut [u8]) -> Opened
+pub fn open(input: &[u8], periodics: &mut [u8], triggers: &mut [u8]) -> Result<Plan, Refusal>
     requires { Zeros periodics.old triggers.old }
     ensures { opened result periodics.new triggers.new ≡ planned input.now }
 {
     if input.len() <= INPUT_BYTES {
         return open_within(input, periodics, triggers);
     }
-    Opened::Refused(answers::refusal_of(Name::Length, 0))
+    Err(answers::refusal_of(Name::Length, 0))
 }

@@ -8,6 +8,7 @@ use answers::Verdict;
 use tables::Counts;
 
 // What came of a minute: the step's answer, where the tape goes on, and the roles after it.
+// Kept: a verdict beside the others, for `MinuteOutcome` (day_minute/Minute) says where the tape goes on, and the roles, after a refusal too.
 #[derive(Clone, Copy)]
 pub struct Minute {
     pub verdict: Verdict,
@@ -41,7 +42,7 @@ pub fn day_minute(
         counts, periodics, triggers, asked, n, instant, enabled, waiting, events,
     );
     Minute {
-        verdict: verdict,
+        verdict,
         next: b.next,
         enabled: *enabled,
     }

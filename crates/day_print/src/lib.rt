@@ -1,17 +1,17 @@
 // A whole day, of any bytes: its lines at the front of the lent buffer, and the rest stays; or a refusal, and all of the buffer stays.
 #![tactic(auto)]
 
-ghost use Rattle.std.specs.Prelude.{◌≡◌, suc, length};
+ghost use Rattle.std.specs.Prelude.{◌≡◌, Ok, suc, length};
 ghost use Rattle.tables.specs.Lent.{rules};
 ghost use Rattle.day_input.specs.Opening.{opening};
 ghost use Rattle.day_input.specs.Planned.{opening_of};
 ghost use Rattle.day_lines.specs.Lines.{OUTPUT_BYTES};
 ghost use Rattle.day_lines.specs.Written.{Written};
-ghost use Rattle.day_print.specs.Day.{unprinted, AfterOpening, DayOutcome};
+ghost use Rattle.day_print.specs.Day.{AfterOpening, DayOutcome};
 ghost use Rattle.day_print.specs.Ready.{Ready};
 
-use answers::{Name, Refusal, Verdict};
-use day_input::{Opened, Plan};
+use answers::{Name, Refusal};
+use day_input::Plan;
 use tables::{EVENTS_NUMBERS, PERIODIC_TABLE, TRIGGER_TABLE, WAITING_NUMBERS};
 
 // The bytes of a minute's line.
@@ -19,13 +19,6 @@ const LINE: usize = 31;
 
 // The longest day: 10,081 lines.
 const OUTPUT_BYTES: usize = 312511;
-
-// What came of an input: the answer, and how many bytes were printed into the buffer.
-#[derive(Clone, Copy)]
-pub struct Printed {
-    pub verdict: Verdict,
-    pub length: usize,
-}
 
 // One line for each instant 0 to the last, of an input that opened.
 fn run(plan: Plan, periodics: &[u8], triggers: &[u8], tape: &[u8], out: &mut [u8])
@@ -41,8 +34,7 @@ fn run(plan: Plan, periodics: &[u8], triggers: &[u8], tape: &[u8], out: &mut [u8
     let mut instant: u32 = 0;
     let mut enabled: u64 = 0;
     let mut at: usize = 0;
-    let mut t: u32 = 0;
-    while t <= last {
+    for t in 0..last + 1 {
         let turn = day_minute::day_minute(
             counts,
             periodics,
@@ -58,63 +50,38 @@ fn run(plan: Plan, periodics: &[u8], triggers: &[u8], tape: &[u8], out: &mut [u8
         let frame = printed_frames::minute_frame(t, turn.enabled, n);
         prints::put_line(out, LINE * (t as usize), &frame);
         at = turn.next;
-        t += 1;
     }
 }
 
-// A refusal: nothing is printed into the buffer.
-fn refused(r: Refusal) -> Printed
-    ensures { result ≡ unprinted r }
-{
-    Printed {
-        verdict: Verdict::Refused(r),
-        length: 0,
-    }
-}
-
-// The lines of an input that opened, at the front of the buffer.
-fn print_lines(
-    plan: Plan,
-    periodics: &[u8],
-    triggers: &[u8],
-    tape: &[u8],
-    out: &mut [u8],
-) -> Printed
+// The lines of an input that opened, at the front of the buffer; how many bytes they have.
+fn print_lines(plan: Plan, periodics: &[u8], triggers: &[u8], tape: &[u8], out: &mut [u8]) -> usize
     requires { Ready plan periodics.now triggers.now tape.now out.old }
     ensures { AfterOpening
         (opening_of plan periodics.now triggers.now tape.now)
-        out.old result out.new }
+        out.old (Ok result) out.new }
 {
     run(plan, periodics, triggers, tape, out);
-    Printed {
-        verdict: Verdict::Pass,
-        length: LINE * (plan.last as usize + 1),
-    }
+    LINE * (plan.last as usize + 1)
 }
 
 // A day, into a buffer that has its length.
-fn print_day(input: &[u8], out: &mut [u8]) -> Printed
+fn print_day(input: &[u8], out: &mut [u8]) -> Result<usize, Refusal>
     requires { length out.old ≡ OUTPUT_BYTES }
     ensures { AfterOpening (opening input.now) out.old result out.new }
 {
     let mut periodics = [0u8; PERIODIC_TABLE];
     let mut triggers = [0u8; TRIGGER_TABLE];
-    let opened = day_input::open(input, &mut periodics, &mut triggers);
-    match opened {
-        Opened::Opens(plan) => {
-            let from = plan.from;
-            print_lines(plan, &periodics, &triggers, &input[from..input.len()], out)
-        }
-        Opened::Refused(r) => refused(r),
-    }
+    let plan = day_input::open(input, &mut periodics, &mut triggers)?;
+    let from = plan.from;
+    Ok(print_lines(plan, &periodics, &triggers, &input[from..input.len()], out))
 }
 
 // A whole day: the lines of an input stand at the front of the lent buffer, and the rest of it stays. After a refusal all of it stays. A buffer of any other length than 312,511 bytes is LENGTH.
-pub fn day(input: &[u8], out: &mut [u8]) -> Printed
+pub fn day(input: &[u8], out: &mut [u8]) -> Result<usize, Refusal>
     ensures { DayOutcome input.now out.old result out.new }
 {
     if out.len() == OUTPUT_BYTES {
         return print_day(input, out);
     }
-    refused(answers::refusal_of(Name::Length, 0))
+    Err(answers::refusal_of(Name::Length, 0))
 }

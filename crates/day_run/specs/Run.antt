@@ -5,19 +5,19 @@ use Rattle.theory.specs.Numbers.{EVENTS, WAITING_NUMBERS}
 use Rattle.theory.specs.Events.{Events}
 use Rattle.theory.specs.Model.{Trace, ExecutionModel, no_roles}
 use Rattle.theory.specs.Box.{State, Run, SameState}
-use Rattle.answers.specs.declared.Verdict.TheVariants.{Pass}
 use Rattle.text.specs.Lines.{Lines, lines}
 use Rattle.tables.specs.Layout.{PERIODIC_TABLE, TRIGGER_TABLE}
 use Rattle.tables.specs.Lent.{Rules, sheet_in, Lent, state_in}
 use Rattle.table_judge.specs.Judge.{judge_tables}
 use Rattle.tape.specs.Tape.{asks_in}
 use Rattle.tape.specs.Fine.{Fine}
+use Rattle.answers.specs.Answers.{pass}
 
 -- what was accepted of the input: tables of their lengths that the judge passes, as a step will ask, and a tape whose requests a step accepts
 pub record GoodInput (R : Rules) (tape : List ℕ) : Type 0 where
   pub periodics : length R.tables.periodics ≡ PERIODIC_TABLE
   pub triggers : length R.tables.triggers ≡ TRIGGER_TABLE
-  pub tables : judge_tables (sheet_in R) ≡ Pass
+  pub tables : judge_tables (sheet_in R) ≡ pass
   pub tape_fine : Fine R.counts.roles 0 0 (lines tape)
 
 -- a run of the box with the tape's requests, of n instants from the fresh state on

@@ -29,22 +29,21 @@ pub fn split(input: &[u8]) -> Parts
 {
     let mut n: usize = 0;
     let mut at: usize = 0;
-    while at < input.len() {
-        let e = text::line_end(input, at);
-        if e == input.len() {
-            return Parts {
-                bytes: e,
-                lines: n + 1,
-            };
-        }
-        if begins_end(&input[at..e]) {
-            return Parts {
-                bytes: e + 1,
-                lines: n + 1,
-            };
-        }
+    while let Some(line) = text::line_at(input, at) {
         n += 1;
-        at = e + 1;
+        at += line.len() + 1;
+        if begins_end(line) {
+            return Parts {
+                bytes: at,
+                lines: n,
+            };
+        }
+    }
+    if at < input.len() {
+        return Parts {
+            bytes: input.len(),
+            lines: n + 1,
+        };
     }
     Parts {
         bytes: at,

@@ -41,13 +41,11 @@ pub fn wait_triggers(
         ≡ joins waiting.old n
         (λ i. trigger_entry (roles_of roles) (events_of events.now) t (trigger_at triggers.now i)) }
 {
-    let mut i: u16 = 0;
-    while i < n {
+    for i in 0..n {
         let on = comes_to_wait(events, triggers, i, roles);
         let delay = trigger_byte(triggers, i, DELAY);
         let head = trigger_byte(triggers, i, HEAD);
         let at = place(t, delay, head);
         join_where(waiting, on, at, trigger_byte(triggers, i, PRIORITY));
-        i += 1;
     }
 }

@@ -12,33 +12,13 @@ use periodics::{PeriodicRow, periodic_row};
 use theory::NO_END;
 use widths::{index, long};
 
-// a less b, and 0 where b is more.
-fn less(a: u64, b: u64) -> u64
-    ensures { result ≡ a - b }
-{
-    if a < b {
-        return 0;
-    }
-    a - b
-}
-
-// a mod b; a itself where b is 0.
-fn modulo(a: u64, b: u64) -> u64
-    ensures { result ≡ a % b }
-{
-    if b == 0 {
-        return a;
-    }
-    a % b
-}
-
 // (t + period − first) mod period: how far t is into the row's period.
 fn residue(t: u32, period: u32, first: u32) -> u64
     ensures { result ≡ (t + period - first) % period }
 {
     let sum = long(t) + long(period);
-    let from = less(sum, long(first));
-    modulo(from, long(period))
+    let from = sum.saturating_sub(long(first));
+    from.checked_rem(long(period)).unwrap_or(from)
 }
 
 // A periodic row is due at the instant t.
@@ -55,13 +35,11 @@ fn row_due(w: PeriodicRow, t: u32) -> bool
 pub fn add_due(events: &mut [u16], periodics: &[u8], n: u16, t: u32)
     ensures { events.new ≡ joins events.old n (due_at periodics.now t) }
 {
-    let mut i: u16 = 0;
-    while i < n {
+    for i in 0..n {
         let w = periodic_row(periodics, i);
         let event = index(w.event);
         let priority = w.priority;
         let on = row_due(w, t);
         join_where(events, on, event, priority);
-        i += 1;
     }
 }

@@ -18,12 +18,10 @@ pub fn nodes(triggers: &[u8], n: u16) -> Row
     ensures { RowIs (node (triggers_of n triggers.now)) result }
 {
     let mut heads = reach_row::none();
-    let mut i: u16 = 0;
-    while i < n {
+    for i in 0..n {
         let on = counts_at(triggers, i);
         let head = trigger_byte(triggers, i, HEAD);
         reach_row::with(&mut heads, head, on);
-        i += 1;
     }
     heads
 }
@@ -48,12 +46,10 @@ fn draw_trigger(rows: &mut Rows, triggers: &[u8], i: u16, heads: &Row, negative:
     }
     let head = trigger_byte(triggers, i, HEAD);
     let m = trigger_byte(triggers, i, EVENT_COUNT);
-    let mut j: u8 = 0;
-    while j < m {
+    for j in 0..m {
         let from = tail(triggers::event(triggers, i, j), negative);
         let on = reach_row::reaches(heads, from);
         reach_rows::link(rows, from, head, on);
-        j += 1;
     }
 }
 
@@ -63,9 +59,7 @@ pub fn draw(rows: &mut Rows, triggers: &[u8], n: u16, heads: &Row, negative: boo
         (added_from heads.now (draws_below (tail_of negative) (triggers_of n triggers.now) n))
         rows.old rows.new }
 {
-    let mut i: u16 = 0;
-    while i < n {
+    for i in 0..n {
         draw_trigger(rows, triggers, i, heads, negative);
-        i += 1;
     }
 }

@@ -14,9 +14,8 @@ use Rattle.theory.specs.Instant.{Requests}
 use Rattle.theory.proofs.Laws.Tests.{test}
 use Rattle.theory.proofs.Laws.Below.{below_cases, any_same}
 use Rattle.theory.proofs.Laws.First.{first_same}
-use Rattle.answers.specs.declared.Verdict.{Verdict}
 use Rattle.answers.specs.declared.Name.TheVariants.{Length, TooMany, Last}
-use Rattle.answers.specs.Answers.{refuse, and_then}
+use Rattle.answers.specs.Answers.{refuse, and_then, Verdict}
 use Rattle.tables.specs.Buffers.{events_of}
 use Rattle.tables.specs.Asked as lent
 use Rattle.tables.specs.Asked.{Asked, request_at, flat, asks}

@@ -1,61 +1,25 @@
 // The step over a lent list of request records, as many as there are and in any order: `step` of their flat numbers, and over 32 TOO MANY.
 #![tactic(auto)]
 
-ghost use Rattle.std.specs.Prelude.{◌≡◌, ◌<◌, min, length, replicate};
+ghost use Rattle.std.specs.Prelude.{min, length};
 ghost use Rattle.theory.specs.Numbers.{REQUESTS};
 ghost use Rattle.tables.specs.Lent.{rules, lent};
-ghost use Rattle.requests.specs.Asked.{request_of};
-ghost use Rattle.requests.specs.Flat.{FLAT_NUMBERS, put_at};
 ghost use Rattle.step.specs.Outcome.{Outcome};
 ghost use Rattle.entry.specs.Listed.{listed, Holds};
 
 use answers::Verdict;
-use requests::{FLAT_NUMBERS, Request};
-use tables::{Counts, REQUEST_BYTES};
+use requests::{FLAT_NUMBERS, Request, put};
+use tables::Counts;
 use theory::REQUESTS;
-
-// The flat numbers of no request.
-fn no_numbers() -> [u8; FLAT_NUMBERS]
-    ensures { result ≡ replicate FLAT_NUMBERS 0 }
-{
-    [0u8; FLAT_NUMBERS]
-}
-
-// How many of n records have a place in the flat numbers.
-fn at_most(n: usize) -> usize
-    ensures { result ≡ min n REQUESTS }
-{
-    if n < REQUESTS {
-        return n;
-    }
-    REQUESTS
-}
-
-// The flat numbers with request i put in.
-fn put(numbers: [u8; FLAT_NUMBERS], i: usize, r: Request) -> [u8; FLAT_NUMBERS]
-    requires { i < REQUESTS }
-    ensures { result ≡ put_at numbers i (request_of r) }
-{
-    let mut l = numbers;
-    let at = REQUEST_BYTES * i;
-    l[at] = r.event;
-    l[at + 1] = r.priority;
-    l[at + 2] = r.delay;
-    l
-}
 
 // The first 32 records as flat numbers.
 fn flatten(requests: &[Request]) -> [u8; FLAT_NUMBERS]
     ensures { Holds (min (length requests.now) REQUESTS) requests.now result }
 {
-    let n = at_most(requests.len());
-    let mut l = no_numbers();
-    let mut i: usize = 0;
-    while i < n {
-        let r = requests[i];
-        let more = put(l, i, r);
-        l = more;
-        i += 1;
+    let n = requests.len().min(REQUESTS);
+    let mut l = [0u8; FLAT_NUMBERS];
+    for (i, r) in requests[..n].iter().enumerate() {
+        put(&mut l, i, *r);
     }
     l
 }

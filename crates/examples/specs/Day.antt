@@ -1,6 +1,6 @@
 -- A day's input and output as they are printed, and what an example says of it through the day's own definitions: what it opens, each of its instants, and what it prints.
 -- Assumes nothing.
-use Rattle.std.specs.Prelude.{◌≡◌, List, [], ◌∷◌, ◌++◌, ℕ, zero, suc, ◌≤◌, get_or}
+use Rattle.std.specs.Prelude.{◌≡◌, List, [], ◌∷◌, ◌++◌, ℕ, zero, suc, ◌≤◌, get_or, Ok}
 use Prim.Native.Char.{code}
 use Prim.Native.String.{String, [] as «end», ◌∷◌ as ◌then◌}
 use Rattle.theory.specs.Events.{Events}
@@ -12,7 +12,6 @@ use Rattle.tables.specs.Layout.{PERIODIC_TABLE, TRIGGER_TABLE, padded}
 use Rattle.tables.specs.Lent.{rules, sheet_in}
 use Rattle.text.specs.Lines.{LINE_END}
 use Rattle.tables.specs.declared.Counts.{Counts}
-use Rattle.reader.specs.declared.Reading.TheVariants.{Good}
 use Rattle.reader.specs.Out.{read_outcome}
 use Rattle.day_input.specs.Opening.{opens, sheet_reading, opening}
 use Rattle.day_print.specs.Day.{Prints}
@@ -86,7 +85,7 @@ Found d t = OneStep (sheet_of_day d) (stream_of d.requests t) (state_before d.mi
 -- The bytes of the input's sheet are read with success into tables of zeros; the input opens this sheet, exactly these requests and this last instant; from the fresh state on each instant up to
 -- the last is as found; and the input prints exactly the bytes of the output.
 pub record Worked (d : Day) : Type 0 where
-  pub read : sheet_reading (text d.input) ≡ read_outcome (Good d.read) (padded PERIODIC_TABLE d.periodics) (padded TRIGGER_TABLE d.triggers)
+  pub read : sheet_reading (text d.input) ≡ read_outcome (Ok d.read) (padded PERIODIC_TABLE d.periodics) (padded TRIGGER_TABLE d.triggers)
   pub opened : opening (text d.input) ≡ opens (sheet_of_day d) (stream_of d.requests) d.last
   pub fresh : Fresh no_roles (state_before d.minutes 0)
   pub minutes : (t : ℕ) → t ≤ d.last → Found d t

@@ -7,8 +7,7 @@ use Rattle.theory.specs.Sheet.{Periodic, Trigger, Sheet, GoodOrder, row_due}
 use Rattle.theory.specs.Instant.{met, Solves, roles_after}
 use Rattle.theory.specs.Graph.{NoLoop, LoopAt}
 use Rattle.answers.specs.declared.Name.TheVariants.{Loop}
-use Rattle.answers.specs.declared.Verdict.TheVariants.{Pass}
-use Rattle.answers.specs.Answers.{refuse}
+use Rattle.answers.specs.Answers.{refuse, pass}
 use Rattle.table_judge.specs.Judge.{judge_tables}
 use Rattle.examples.specs.Written.{Prioritized, among, Rule, Rest, sheet_with, Fits}
 use Rattle.examples.specs.Day.{Day, Worked}
@@ -51,7 +50,7 @@ pub record Wins (w l : Prioritized) : Type 0 where
 pub record SheetAccepted (sh : Sheet) : Type 0 where
   pub good : GoodOrder sh
   pub no_loop : NoLoop sh
-  pub verdict : judge_tables sh ≡ Pass
+  pub verdict : judge_tables sh ≡ pass
 
 -- The sheet has a loop at this place, and the judge of the tables says so.
 pub record SheetRefused (sh : Sheet) (place : ℕ) : Type 0 where

@@ -1,6 +1,6 @@
 -- Laws of the line for the screen: where it stands, that it is the line of the place, and the search for it.
 -- Assumes nothing.
-use Rattle.std.specs.Prelude.{◌≡◌, Bool, true, false, cond, List, [], ◌∷◌, ◌++◌, ℕ, zero, suc, ◌+◌, ◌-◌, ◌≤◌, ◌<◌, eqb, length, get_or, take, drop}
+use Rattle.std.specs.Prelude.{◌≡◌, Bool, true, false, cond, List, [], ◌∷◌, ◌++◌, ℕ, zero, suc, ◌+◌, ◌-◌, ◌≤◌, ◌<◌, eqb, length, get_or, take, drop, Err, Ok, Result}
 use Rattle.std.proofs.Math.Path.{refl}
 use Rattle.std.proofs.Common.{sym, ap, ◌∙◌, subst, ⊎_elim, append_assoc, append-nil, arith, length-append, length-drop, length-take-le}
 use Rattle.std.proofs.Math.Logic.{by_cases}
@@ -13,8 +13,6 @@ use Rattle.text.specs.Laws.Lines.{line_here, endless_here, end_le, text_of, text
 use Rattle.answers.specs.declared.Refusal.{Refusal}
 use Rattle.faulty_line.specs.declared.Part.{Part}
 use Rattle.faulty_line.specs.declared.Span.{Span}
-use Rattle.faulty_line.specs.declared.Spot.{Spot}
-use Rattle.faulty_line.specs.declared.Spot.TheVariants.{At, Past}
 use Rattle.faulty_line.specs.Part.{has_line, spot_of, tapes_end, in_tape, in_sheet, faulty_part, shown}
 pub mod Shown
 
@@ -38,9 +36,9 @@ stands_here pre l more =
     }
 
 -- with k lines before it there is a line, and it stands there; or there are too few
-pub data Sought (text : List ℕ) (ls : Lines) (k : ℕ) (s : Spot) : Type 0 where
-  found : (g : Span) → s ≡ At g → k < length (all_lines ls) → Stands text (get_or (all_lines ls) k []) g → Sought text ls k s
-  passed : (n : ℕ) → s ≡ Past n → k ≡ length (all_lines ls) + n → Sought text ls k s
+pub data Sought (text : List ℕ) (ls : Lines) (k : ℕ) (s : Result Span ℕ) : Type 0 where
+  found : (g : Span) → s ≡ Ok g → k < length (all_lines ls) → Stands text (get_or (all_lines ls) k []) g → Sought text ls k s
+  passed : (n : ℕ) → s ≡ Err n → k ≡ length (all_lines ls) + n → Sought text ls k s
 
 sought : (pre : List ℕ) (k : ℕ) (ls : Lines) → Sought (pre ++ text_of ls) ls k (spot_of (length pre) k ls)
 unfolding text_of
@@ -60,7 +58,7 @@ sought pre (suc k) (line l ls) = more (subst (λ (n : ℕ). Sought (pre ++ (l ++
     same : on ++ text_of ls ≡ pre ++ (l ++ LINE_END ∷ text_of ls)
     same = append_assoc pre (l ++ LINE_END ∷ []) (text_of ls) ∙ ap (λ (t : List ℕ). pre ++ t) (append_assoc l (LINE_END ∷ []) (text_of ls))
 
-    more : {s : Spot} → Sought (pre ++ (l ++ LINE_END ∷ text_of ls)) ls k s → Sought (pre ++ (l ++ LINE_END ∷ text_of ls)) (line l ls) (suc k) s
+    more : {s : Result Span ℕ} → Sought (pre ++ (l ++ LINE_END ∷ text_of ls)) ls k s → Sought (pre ++ (l ++ LINE_END ∷ text_of ls)) (line l ls) (suc k) s
     more (found g e h x) = found g e (omega arith) x
     more (passed n e h) = passed n e (omega arith)
 
@@ -80,19 +78,19 @@ module _ (text : List ℕ) (at e : ℕ) (ends : e ≡ at + span (drop at text)) 
       let k : at + length (take (e - at) (drop at text)) + 1 ≡ e + 1 = omega (arith, size_here, ends) in
       rw (line_here text at e ends h) (ap (λ (x : ℕ). spot_of x n (lines (drop (e + 1) text))) k)
 
-  pub seek_past : (n : ℕ) → e ≡ length text → spot_of at (suc n) (lines (drop at text)) ≡ Past n
+  pub seek_past : (n : ℕ) → e ≡ length text → spot_of at (suc n) (lines (drop at text)) ≡ Err n
   seek_past n h = rw (endless_here text at e ends inside h) refl
 
-  pub seek_found : spot_of at 0 (lines (drop at text)) ≡ At (record { from = at; to = e })
+  pub seek_found : spot_of at 0 (lines (drop at text)) ≡ Ok (record { from = at; to = e })
   seek_found =
       by_cases (dec_lt e (length text))
       (λ (h : e < length text).
       let k : at + length (take (e - at) (drop at text)) ≡ e = omega (arith, size_here, ends) in
-      rw (line_here text at e ends h) (ap (λ (x : ℕ). At (record { from = at; to = x })) k))
+      rw (line_here text at e ends h) (ap (λ (x : ℕ). Ok (record { from = at; to = x })) k))
       (λ (h : ¬ (e < length text)).
       let q : e ≡ length text = omega (arith, end_le text at e ends (omega arith)) in
       let k : at + length (drop at text) ≡ e = omega (arith, length-drop at text) in
-      rw (endless_here text at e ends inside q) (ap (λ (x : ℕ). At (record { from = at; to = x })) k))
+      rw (endless_here text at e ends inside q) (ap (λ (x : ℕ). Ok (record { from = at; to = x })) k))
 
 -- ---- the part of a refusal
 
@@ -108,16 +106,16 @@ module _ (sheet tape : List ℕ) where
   tape_within : (k : ℕ) → Within (in_tape tape (spot_of 0 k (lines tape)))
   tape_within k = by_sought (line_sought tape k)
     where
-      by_sought : {s : Spot} → Sought tape (lines tape) k s → Within (in_tape tape s)
-      by_sought (found g e h x) = subst (λ (s : Spot). Within (in_tape tape s)) (sym e) (record { begins = x.begins; ends = x.ends })
-      by_sought (passed n e h) = subst (λ (s : Spot). Within (in_tape tape s)) (sym e) end_within
+      by_sought : {s : Result Span ℕ} → Sought tape (lines tape) k s → Within (in_tape tape s)
+      by_sought (found g e h x) = subst (λ (s : Result Span ℕ). Within (in_tape tape s)) (sym e) (record { begins = x.begins; ends = x.ends })
+      by_sought (passed n e h) = subst (λ (s : Result Span ℕ). Within (in_tape tape s)) (sym e) end_within
 
   sheet_within : (k : ℕ) → Within (in_sheet tape (spot_of 0 k (lines sheet)))
   sheet_within k = by_sought (line_sought sheet k)
     where
-      by_sought : {s : Spot} → Sought sheet (lines sheet) k s → Within (in_sheet tape s)
-      by_sought (found g e h x) = subst (λ (s : Spot). Within (in_sheet tape s)) (sym e) (record { begins = x.begins; ends = x.ends })
-      by_sought (passed n e h) = subst (λ (s : Spot). Within (in_sheet tape s)) (sym e) (tape_within n)
+      by_sought : {s : Result Span ℕ} → Sought sheet (lines sheet) k s → Within (in_sheet tape s)
+      by_sought (found g e h x) = subst (λ (s : Result Span ℕ). Within (in_sheet tape s)) (sym e) (record { begins = x.begins; ends = x.ends })
+      by_sought (passed n e h) = subst (λ (s : Result Span ℕ). Within (in_sheet tape s)) (sym e) (tape_within n)
 
   module _ (r : Refusal) where
     pub no_line : has_line r.name ≡ false → tapes_end tape ≡ faulty_part sheet tape r

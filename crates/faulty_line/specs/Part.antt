@@ -1,13 +1,12 @@
 -- The line for the screen, without its 0A: 'a returned part of either the sheet or the tape, whichever was refused' (document 02, [2]).
 -- Assumes nothing.
-use Rattle.std.specs.Prelude.{Bool, true, false, cond, List, [], ◌∷◌, ◌++◌, ℕ, zero, suc, ◌+◌, ◌-◌, eqb, length, get_or, take, drop}
+use Rattle.std.specs.Prelude.{Bool, true, false, cond, List, [], ◌∷◌, ◌++◌, ℕ, zero, suc, ◌+◌, ◌-◌, eqb, length, get_or, take, drop, Err, Ok, Result}
+use Rattle.faulty_line.specs.declared.Span.{Span}
 use Rattle.answers.specs.declared.Name.{Name}
 use Rattle.answers.specs.declared.Name.TheVariants.{Length, Frame, Check, Kind, Field, TooMany, Count, Loop, Request, Last}
 use Rattle.answers.specs.declared.Refusal.{Refusal}
 use Rattle.text.specs.Lines.{Lines, none, endless, line, lines, all_lines}
 use Rattle.faulty_line.specs.declared.Part.{Part}
-use Rattle.faulty_line.specs.declared.Spot.{Spot}
-use Rattle.faulty_line.specs.declared.Spot.TheVariants.{At, Past}
 
 -- which refusals of a sheet or of a tape have a line for their place
 abbrev pub has_line : Name → Bool
@@ -24,11 +23,11 @@ has_line Last = false
 
 -- the line before which k others stand, in lines that begin at byte `from`: from which byte up to which, its 0A left out; or, where there are too few, how many
 -- further lines are to be passed in the text that follows
-abbrev pub spot_of : ℕ → ℕ → Lines → Spot
-spot_of from k none = Past k
-spot_of from zero (endless l) = At (record { from = from; to = from + length l })
-spot_of from (suc k) (endless l) = Past k
-spot_of from zero (line l ls) = At (record { from = from; to = from + length l })
+abbrev pub spot_of : ℕ → ℕ → Lines → Result Span ℕ
+spot_of from k none = Err k
+spot_of from zero (endless l) = Ok (record { from = from; to = from + length l })
+spot_of from (suc k) (endless l) = Err k
+spot_of from zero (line l ls) = Ok (record { from = from; to = from + length l })
 spot_of from (suc k) (line l ls) = spot_of (from + length l + 1) k ls
 
 -- the empty part at the tape's end
@@ -36,13 +35,13 @@ abbrev pub tapes_end : List ℕ → Part
 tapes_end tape = record { tape = true; from = length tape; to = length tape }
 
 -- what was found in the tape, and what was found in the sheet: lines are counted through the sheet and on through the tape
-abbrev pub in_tape : List ℕ → Spot → Part
-in_tape tape (At g) = record { tape = true; from = g.from; to = g.to }
-in_tape tape (Past k) = tapes_end tape
+abbrev pub in_tape : List ℕ → Result Span ℕ → Part
+in_tape tape (Ok g) = record { tape = true; from = g.from; to = g.to }
+in_tape tape (Err k) = tapes_end tape
 
-abbrev pub in_sheet : List ℕ → Spot → Part
-in_sheet tape (At g) = record { tape = false; from = g.from; to = g.to }
-in_sheet tape (Past k) = in_tape tape (spot_of 0 k (lines tape))
+abbrev pub in_sheet : List ℕ → Result Span ℕ → Part
+in_sheet tape (Ok g) = record { tape = false; from = g.from; to = g.to }
+in_sheet tape (Err k) = in_tape tape (spot_of 0 k (lines tape))
 
 -- THE PART of a refusal of a sheet or of its tape: the line of its place, counted from 1; where the place is no line, or the two have not so many, the empty part at the tape's end
 unfoldable pub faulty_part : List ℕ → List ℕ → Refusal → Part

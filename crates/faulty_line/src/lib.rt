@@ -8,6 +8,7 @@ ghost use Rattle.faulty_line.specs.Part.{has_line, spot_of, tapes_end, in_tape, 
 use answers::{Name, Refusal};
 
 // A part of the sheet or of the tape: of which, from which byte, and up to which.
+// Kept: a flag beside the two, for either text has a part, and `shown` (faulty_line/Part) asks which.
 #[derive(Clone, Copy)]
 pub struct Part {
     pub tape: bool,
@@ -20,13 +21,6 @@ pub struct Part {
 struct Span {
     from: usize,
     to: usize,
-}
-
-// Where a line of a text is; or the text has too few, and so many are left to count.
-#[derive(Clone, Copy)]
-enum Spot {
-    At(Span),
-    Past(u32),
 }
 
 // A refusal of this name is at a line.
@@ -47,24 +41,28 @@ fn has_line(name: Name) -> bool
     }
 }
 
-// The line of a text before which k others stand.
-fn seek(text: &[u8], k: u32) -> Spot
+// The line of a text before which k others stand; or, where the text has too few, how many are left to count.
+fn seek(text: &[u8], k: u32) -> Result<Span, u32>
     ensures { result ≡ spot_of 0 k (lines text.now) }
 {
     let mut left = k;
     let mut at: usize = 0;
-    while at < text.len() {
-        let e = text::line_end(text, at);
+    while let Some(line) = text::line_at(text, at) {
+        let to = at + line.len();
         if left == 0 {
-            return Spot::At(Span { from: at, to: e });
+            return Ok(Span { from: at, to });
         }
         left -= 1;
-        if e == text.len() {
-            return Spot::Past(left);
-        }
-        at = e + 1;
+        at = to + 1;
     }
-    Spot::Past(left)
+    if at < text.len() {
+        if left == 0 {
+            let to = text.len();
+            return Ok(Span { from: at, to });
+        }
+        return Err(left - 1);
+    }
+    Err(left)
 }
 
 // The empty part at the tape's end.
@@ -84,12 +82,12 @@ fn in_tape(tape: &[u8], k: u32) -> Part
 {
     let s = seek(tape, k);
     match s {
-        Spot::At(g) => Part {
+        Ok(g) => Part {
             tape: true,
             from: g.from,
             to: g.to,
         },
-        Spot::Past(k) => end_of(tape),
+        Err(k) => end_of(tape),
     }
 }
 
@@ -106,12 +104,12 @@ pub fn faulty_part(sheet: &[u8], tape: &[u8], r: Refusal) -> Part
     }
     let s = seek(sheet, r.place - 1);
     match s {
-        Spot::At(g) => Part {
+        Ok(g) => Part {
             tape: false,
             from: g.from,
             to: g.to,
         },
-        Spot::Past(k) => in_tape(tape, k),
+        Err(k) => in_tape(tape, k),
     }
 }
 

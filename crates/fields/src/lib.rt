@@ -14,6 +14,7 @@ use theory::ROLES;
 pub const VERSION: u8 = 1;
 
 // The number of the header's first field that is outside its limit, from 0; 2 where none is.
+// Kept: 2, and no Option, since `bad_byte` promises the byte after the last field where all of them fit.
 fn first_bad_header(version: u8, roles: u8) -> u8
     ensures { result ≡ first_failing (header_tests version roles) }
 {
@@ -76,17 +77,17 @@ pub fn bad_byte(k: u8, roles: u8, line: &[u8]) -> u16
 {
     if k == HEADER {
         let i = first_bad_header(byte_at(line, 1), byte_at(line, 2));
-        return 1 + i as u16;
+        return 1 + u16::from(i);
     }
     if k == PERIODIC {
         let row = periodic_frames::periodic_row(line);
         let i = periodic_limits::first_bad_periodic(periodics::periodic_row(&row, 0), roles);
-        return 1 + bytes_before(i) as u16;
+        return 1 + u16::from(bytes_before(i));
     }
     if k == TRIGGER {
         let row = trigger_frames::trigger_row(line);
         let i = trigger_limits::first_bad_trigger(&row, 0, roles);
-        return 1 + i as u16;
+        return 1 + u16::from(i);
     }
     1
 }

@@ -1,11 +1,9 @@
 // A line as the bytes of a frame: each byte, 0 past the end, and how many; and CHECK, whether their sum is a multiple of 256.
 #![tactic(auto)]
 
-ghost use Rattle.std.specs.Prelude.{◌≡◌, ◌%◌, ◌<◌, get_or, length};
+ghost use Rattle.std.specs.Prelude.{◌≡◌, ◌%◌, get_or, length};
 ghost use Rattle.tables.specs.Layout.{two, four};
 ghost use Rattle.frames.specs.Frame.{value, bytes_of, checked, sum};
-
-use widths::{index, pair, wide};
 
 // A letter stands for its character less this.
 pub const TEN_BELOW_A: u8 = b'A' - 10;
@@ -60,29 +58,25 @@ pub fn byte_at(line: &[u8], i: usize) -> u8
     0
 }
 
-// The number of two bytes from `at` on, high byte first.
-fn two_from(line: &[u8], at: usize) -> u32
-    requires { at < 258 }
-    ensures { (result ≡ two (bytes_of line.now) at) × (result < 65536) }
-{
-    pair(byte_at(line, at), byte_at(line, at + 1))
-}
-
-// The number of two bytes at i.
+// The number of two bytes at i, high byte first.
 pub fn two_at(line: &[u8], i: u8) -> u32
     ensures { result ≡ two (bytes_of line.now) i }
 {
-    two_from(line, index(i))
+    let at = usize::from(i);
+    u32::from(u16::from_be_bytes([byte_at(line, at), byte_at(line, at + 1)]))
 }
 
-// The number of four bytes at i.
+// The number of four bytes at i, high byte first.
 pub fn four_at(line: &[u8], i: u8) -> u32
     ensures { result ≡ four (bytes_of line.now) i }
 {
-    let at = index(i);
-    let high = two_from(line, at);
-    let low = two_from(line, at + 2);
-    65536 * high + low
+    let at = usize::from(i);
+    u32::from_be_bytes([
+        byte_at(line, at),
+        byte_at(line, at + 1),
+        byte_at(line, at + 2),
+        byte_at(line, at + 3),
+    ])
 }
 
 // How many bytes the line's frame has.
@@ -93,19 +87,17 @@ pub fn count(line: &[u8]) -> usize
 }
 
 // The sum of the frame's bytes, less the multiples of 256.
-fn total(line: &[u8]) -> u32
+fn total(line: &[u8]) -> u8
     ensures { result ≡ sum (bytes_of line.now) % 256 }
 {
-    let n = line.len() / 2;
-    let mut t: u32 = 0;
-    let mut i: usize = 0;
-    while i < n {
-        let a = digit_by_tests(line[2 * i]);
-        let b = digit_by_tests(line[2 * i + 1]);
-        t = (t + 16 * wide(a) + wide(b)) % 256;
-        i += 1;
+    let (pairs, _) = line.as_chunks::<2>();
+    let mut sum: u8 = 0;
+    for pair in pairs {
+        let a = digit_by_tests(pair[0]);
+        let b = digit_by_tests(pair[1]);
+        sum = sum.wrapping_add(16 * a + b);
     }
-    t
+    sum
 }
 
 // A line's frame passes CHECK.

@@ -1,13 +1,13 @@
 -- Laws of the chains: how they are made, from the last trigger to the first, and what they say of the keys.
 -- Assumes nothing.
-use Rattle.std.specs.Prelude.{◌≡◌, refl, true, false, List, ℕ, ◌+◌, ◌≤◌, ◌<◌, eqb, length, get_or, set, replicate}
+use Rattle.std.specs.Prelude.{◌≡◌, refl, true, false, List, ℕ, zero, suc, ◌+◌, ◌-◌, ◌≤◌, ◌<◌, eqb, length, get_or, set, replicate, Option, Some, None, MatchOption, unwrap_or}
 use Rattle.std.proofs.Common.{ap, ◌∙◌, subst, ⊎_elim, eq-or-lt_of_le, arith, length-set, get_or-set_same, get_or-set_other, eqb-true}
 use Rattle.std.proofs.lemmas.List.{length-replicate, get_or-replicate}
 use Rattle.std.proofs.lemmas.Bool.{eqb-false}
 use Rattle.theory.specs.Numbers.{TRIGGER_ROWS}
 use Rattle.theory.proofs.Laws.Tests.{test}
 use Rattle.theory.specs.Solving.{Gap}
-use Rattle.theory.proofs.Laws.Solving.{gap_wider}
+use Rattle.theory.proofs.Laws.Solving.{gap_first, gap_wider}
 use Rattle.keys.specs.Keys.{KEYS, PLACES, first_of, after_of, First, Chained}
 
 module _ (key : ℕ → ℕ) (n : ℕ) where
@@ -108,3 +108,22 @@ module _ (key : ℕ → ℕ) (n : ℕ) where
   -- a key whose chain is empty is no trigger's
   pub chained_gap : (c : List ℕ) (k r v : ℕ) → v ≡ first_of c r → n ≤ v → r < KEYS → Chained key n 0 c → Gap key n k r → Gap key n k (r + 1)
   chained_gap c k r v e m l h g = gap_wider key n k r g (λ i y. (h.first r l).none i (omega arith) (omega (arith, e)))
+
+  -- no key lies between two where all chains are empty
+  chained_gaps : (c : List ℕ) (k m : ℕ) → k + 1 + m ≤ KEYS → ((j : ℕ) → k + 1 ≤ j → j < k + 1 + m → n ≤ first_of c j) → Chained key n 0 c → Gap key n k (k + 1 + m)
+  chained_gaps c k zero l f h = let e : k + 1 + zero ≡ k + 1 = omega arith in rw e (gap_first key n k)
+  chained_gaps c k (suc m) l f h =
+      let e : k + 1 + suc m ≡ k + 1 + m + 1 = omega arith in
+      rw e (chained_gap c k (k + 1 + m) (first_of c (k + 1 + m)) refl (f (k + 1 + m) (omega arith) (omega arith)) (omega arith) h (chained_gaps c k m (omega arith) (λ j x y. f j x (omega arith)) h))
+
+  chained_gap_to : (c : List ℕ) (k r : ℕ) → k < r → r ≤ KEYS → ((j : ℕ) → k + 1 ≤ j → j < r → n ≤ first_of c j) → Chained key n 0 c → Gap key n k r
+  chained_gap_to c k r l m f h =
+      let e : k + 1 + (r - (k + 1)) ≡ r = omega arith in
+      subst (λ (x : ℕ). Gap key n k x) e (chained_gaps c k (r - (k + 1)) (omega arith) (λ j x y. f j x (omega arith)) h)
+
+-- the first key after k whose chain is not empty, and KEYS where there is none
+pub next_found : (c : List ℕ) (n k : ℕ) (r : Option ℕ) → k < KEYS
+    → MatchOption r ((j : ℕ) → k + 1 ≤ j → j < KEYS → n ≤ first_of c j) (λ i. (k + 1 ≤ i) × (i < KEYS) × (first_of c i < n) × ((j : ℕ) → k + 1 ≤ j → j < i → n ≤ first_of c j))
+    → (k < unwrap_or r KEYS) × (unwrap_or r KEYS ≤ KEYS) × ((key : ℕ → ℕ) → Chained key n 0 c → Gap key n k (unwrap_or r KEYS))
+next_found c n k None l h = (l, omega arith, λ key w. chained_gap_to key n c k KEYS l (omega arith) h w)
+next_found c n k (Some i) l h = (omega (arith, h.0), omega (arith, h.1), λ key w. chained_gap_to key n c k i (omega (arith, h.0)) (omega (arith, h.1)) h.3 w)

@@ -42,9 +42,7 @@ pub fn chains(triggers: &[u8], levels: &[u8], roles: u64, n: u16) -> [u16; PLACE
     ensures { Chained (key_in triggers.now levels.now roles n) n 0 result }
 {
     let mut r = [n; PLACES];
-    let mut i = n;
-    while i > 0 {
-        i -= 1;
+    for i in (0..n).rev() {
         let key = key_of(triggers, levels, roles, i);
         let front = FRONTS + row_index(key);
         let at = row_index(i);
@@ -59,12 +57,7 @@ pub fn next(chains: &[u16], n: u16, k: u16) -> u16
     requires { k < KEYS }
     ensures { (k < result) × (result ≤ KEYS) × ((key : ℕ → ℕ) → Chained key n 0 chains.now → Gap key n k result) }
 {
-    let mut r = k + 1;
-    while r < KEYS {
-        if number(chains, FRONTS + row_index(r)) < n {
-            return r;
-        }
-        r += 1;
-    }
-    r
+    (k + 1..KEYS)
+        .find(|r| number(chains, FRONTS + row_index(*r)) < n)
+        .unwrap_or(KEYS)
 }

@@ -6,9 +6,9 @@ ghost use Rattle.frames.specs.Frame.{bytes_of};
 ghost use Rattle.kinds.specs.Kinds.{size_of, sized, may_stand};
 
 use frames::byte_at;
-use widths::index;
 
 // The kinds of a sheet's frames, which are their first bytes.
+// Kept: `is_kind`, `has_room`, `frame_fits` and `bad_byte` promise their answer of every first byte a line can have, so that an enum would need a variant for each byte that is no kind.
 pub const HEADER: u8 = 0x10;
 
 pub const PERIODIC: u8 = 0x20;
@@ -25,7 +25,8 @@ pub enum Stage {
     Ended,
 }
 
-// How many bytes a frame of kind k has, with e events and c conditions if it is a trigger.
+// How many bytes a frame of kind k has, with e events and c conditions if it is a trigger; an unknown kind has 0.
+// Kept: 0, and no Option, is what the definition `size_of` says of an unknown kind, and no line has so few bytes.
 fn size_of(k: u8, e: usize, c: usize) -> usize
     requires { (e < 256) × (c < 256) }
     ensures { result ≡ size_of k e c }
@@ -50,8 +51,8 @@ fn is_sized(line: &[u8]) -> bool
     ensures { result ≡ sized (bytes_of line.now) }
 {
     let k = byte_at(line, 0);
-    let e = index(byte_at(line, 1));
-    let c = index(byte_at(line, 2));
+    let e = usize::from(byte_at(line, 1));
+    let c = usize::from(byte_at(line, 2));
     frames::count(line) == size_of(k, e, c)
 }
 

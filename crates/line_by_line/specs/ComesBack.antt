@@ -1,6 +1,6 @@
 -- Reading as document 01 says it: LENGTH, then line by line from 1, and after the last line LOOP. What is refused at which line and in which column, what reads whole, and what the tables hold then.
 -- Assumes nothing.
-use Rattle.std.specs.Prelude.{◌≡◌, true, cond, List, [], ◌∷◌, ◌++◌, map, ℕ, suc, ◌-◌, ◌≤◌, ◌<◌, eqb, length, get_or, take}
+use Rattle.std.specs.Prelude.{◌≡◌, true, cond, List, [], ◌∷◌, ◌++◌, map, ℕ, suc, ◌-◌, ◌≤◌, ◌<◌, eqb, length, get_or, take, Err, Ok}
 use Rattle.theory.specs.Numbers.{SHEET_BYTES}
 use Rattle.theory.specs.Sheet.{Sheet}
 use Rattle.theory.specs.Graph.{NoLoop, LoopAt}
@@ -16,7 +16,6 @@ use Rattle.tables.specs.Lent.{rules, sheet_in}
 use Rattle.periodic_frames.specs.Row.{periodic_row}
 use Rattle.trigger_frames.specs.Row.{trigger_row}
 use Rattle.kinds.specs.Kinds.{PERIODIC, TRIGGER, END, kind}
-use Rattle.reader.specs.declared.Reading.TheVariants.{Good, Refused}
 use Rattle.reader.specs.Out.{ReadOutcome, read_outcome}
 use Rattle.line_by_line.specs.Lines.{lines_in, rest_in}
 use Rattle.line_by_line.specs.Tests.{how_many, role_count, order, all_pass, FirstFails, bad_field}
@@ -113,12 +112,12 @@ frames_in sheet = frames_of (lines_in sheet)
 -- WHAT COMES BACK of a sheet's bytes, with the lent tables p and t as they came: the answer, and what the tables hold then, which after a refusal is p and t
 pub data ComesBack (sheet p t : List ℕ) (o : ReadOutcome) : Type 0 where
   -- LENGTH, at 0;
-  by_length : ¬ LengthsFit sheet p t → o ≡ read_outcome (Refused (refusal Length 0)) p t → ComesBack sheet p t o
+  by_length : ¬ LengthsFit sheet p t → o ≡ read_outcome (Err (refusal Length 0)) p t → ComesBack sheet p t o
   -- else a line is refused, with its name at its number, in its column;
   at_line : (name : Name) (k : ℕ) → LengthsFit sheet p t → RefusedAt (lines_in sheet) (rest_in sheet) name k
-      → o ≡ read_outcome (Refused (refusal_at (lines_in sheet) (rest_in sheet) name k)) p t → ComesBack sheet p t o
+      → o ≡ read_outcome (Err (refusal_at (lines_in sheet) (rest_in sheet) name k)) p t → ComesBack sheet p t o
   -- else the sheet has a loop: LOOP, at the pair;
-  by_loop : (k : ℕ) → LengthsFit sheet p t → ReadsWhole (lines_in sheet) (rest_in sheet) → LoopAt (sheet_said (frames_in sheet)) k → o ≡ read_outcome (Refused (refusal Loop k)) p t → ComesBack sheet p t o
+  by_loop : (k : ℕ) → LengthsFit sheet p t → ReadsWhole (lines_in sheet) (rest_in sheet) → LoopAt (sheet_said (frames_in sheet)) k → o ≡ read_outcome (Err (refusal Loop k)) p t → ComesBack sheet p t o
   -- else OK, with the sheet's counts and tables
   accepted : LengthsFit sheet p t → ReadsWhole (lines_in sheet) (rest_in sheet) → NoLoop (sheet_said (frames_in sheet))
-      → o ≡ read_outcome (Good (counts_of (frames_in sheet))) (periodic_table (frames_in sheet)) (trigger_table (frames_in sheet)) → ComesBack sheet p t o
+      → o ≡ read_outcome (Ok (counts_of (frames_in sheet))) (periodic_table (frames_in sheet)) (trigger_table (frames_in sheet)) → ComesBack sheet p t o

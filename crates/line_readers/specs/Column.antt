@@ -1,12 +1,10 @@
 -- The column of a line's refusal, from 1: document 02, [2].
 -- Assumes nothing.
-use Rattle.std.specs.Prelude.{List, ℕ, ◌+◌, ◌-◌, ◌*◌, length}
+use Rattle.std.specs.Prelude.{List, ℕ, ◌+◌, ◌-◌, ◌*◌, length, Err, Ok}
 use Rattle.answers.specs.declared.Name.{Name}
 use Rattle.answers.specs.declared.Name.TheVariants.{Length, Frame, Check, Kind, Field, TooMany, Count, Loop, Request, Last}
 use Rattle.answers.specs.declared.Refusal.{Refusal}
-use Rattle.answers.specs.declared.Verdict.{Verdict}
-use Rattle.answers.specs.declared.Verdict.TheVariants.{Pass, Refused}
-use Rattle.answers.specs.Answers.{in_column}
+use Rattle.answers.specs.Answers.{in_column, Verdict, pass}
 use Rattle.text.specs.Framed.{frame_column}
 
 -- the column of the first digit of byte i of a frame: two digits a byte
@@ -33,5 +31,5 @@ in_line l field r = in_column (column_of r.name l field) r
 
 -- a verdict on the line l likewise
 unfoldable pub located : List ℕ → ℕ → Verdict → Verdict
-located l field Pass = Pass
-located l field (Refused r) = Refused (in_line l field r)
+located l field (Ok tt) = pass
+located l field (Err r) = Err (in_line l field r)

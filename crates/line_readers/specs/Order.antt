@@ -3,9 +3,7 @@
 use Rattle.std.specs.Prelude.{cond, ℕ}
 use Rattle.answers.specs.declared.Name.{Name}
 use Rattle.answers.specs.declared.Name.TheVariants.{Frame, Check, Kind, Field, TooMany}
-use Rattle.answers.specs.declared.Verdict.{Verdict}
-use Rattle.answers.specs.declared.Verdict.TheVariants.{Pass}
-use Rattle.answers.specs.Answers.{refuse}
+use Rattle.answers.specs.Answers.{refuse, Verdict, pass}
 use Rattle.line_readers.specs.declared.Tests.{Tests}
 
 -- the first that fails gives its refusal. `name` is that of the last.
@@ -16,7 +14,7 @@ in_order t name place =
     (cond t.kind
     (cond t.room
     (cond t.field
-    (cond t.last Pass (refuse name place))
+    (cond t.last pass (refuse name place))
     (refuse Field place))
     (refuse TooMany place))
     (refuse Kind place))

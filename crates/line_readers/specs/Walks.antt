@@ -1,11 +1,9 @@
 -- The lines of a text in order, for any reader of them: what each line makes of what was read so far.
 -- Assumes nothing.
-use Rattle.std.specs.Prelude.{List, ℕ, ◌+◌}
+use Rattle.std.specs.Prelude.{List, ℕ, ◌+◌, Err, Ok}
 use Rattle.answers.specs.declared.Name.TheVariants.{Frame}
 use Rattle.answers.specs.declared.Refusal.{Refusal}
-use Rattle.answers.specs.declared.Verdict.{Verdict}
-use Rattle.answers.specs.declared.Verdict.TheVariants.{Pass, Refused}
-use Rattle.answers.specs.Answers.{refusal}
+use Rattle.answers.specs.Answers.{refusal, Verdict}
 use Rattle.text.specs.Lines.{Lines, none, endless, line}
 use Rattle.line_readers.specs.Column.{in_line}
 
@@ -16,8 +14,8 @@ pub data Going (A : Type 0) : Type 0 where
 
 -- by the verdict on a line: where it passes, reading goes on with what it made
 unfoldable pub by_verdict : {A : Type 0} → Verdict → A → Going A
-by_verdict Pass made = goes made
-by_verdict (Refused r) made = refused r
+by_verdict (Ok tt) made = goes made
+by_verdict (Err r) made = refused r
 
 -- A reader: how many lines were read so far, what one line more makes of that, and what is left after the last line.
 pub record Reader (A : Type 0) : Type 0 where

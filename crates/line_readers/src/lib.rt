@@ -41,7 +41,7 @@ pub fn in_order(tests: Tests, name: Name, place: u32) -> Verdict
     if !tests.last {
         return refuse(name, place);
     }
-    Verdict::Pass
+    Ok(())
 }
 
 // The column of the last digit but one. (A line that came to CHECK has two.)

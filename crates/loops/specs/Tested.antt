@@ -1,17 +1,15 @@
 -- What the loop test answers for a sheet: the first − edge on a cycle as a pair, and the level of each event (document 01, 'The loop test').
 -- Assumes nothing.
-use Rattle.std.specs.Prelude.{Bool, cond, ◌&&◌, List, [], ◌∷◌, ℕ, zero, suc, ◌/◌, ◌%◌, ltb}
+use Rattle.std.specs.Prelude.{Bool, cond, ◌&&◌, List, [], ◌∷◌, ℕ, zero, suc, ◌/◌, ◌%◌, ltb, None, Option, Some}
 use Rattle.theory.specs.Numbers.{EVENTS}
 use Rattle.theory.specs.Sheet.{Sheet}
 use Rattle.theory.specs.Graph.{Edges}
 use Rattle.theory.specs.LoopTest.{PAIRS, loop_place, level_of}
-use Rattle.loops.specs.declared.Found.{Found}
-use Rattle.loops.specs.declared.Found.TheVariants.{At, Nothing}
 use Rattle.loops.specs.declared.Tested.{Tested}
 
 -- the pair of number k, which is 128 × from + to; no pair has a number from 16,384 on
-unfoldable pub found_at : ℕ → Found
-found_at k = cond (ltb k PAIRS) (At (k / EVENTS) (k % EVENTS)) Nothing
+unfoldable pub found_at : ℕ → Option (ℕ × ℕ)
+found_at k = cond (ltb k PAIRS) (Some (k / EVENTS, k % EVENTS)) None
 
 -- the pair of number k is a − edge on a cycle
 abbrev pub cycle_at : Edges → Edges → ℕ → Bool

@@ -17,17 +17,10 @@ use theory::EVENTS;
 // One level for each event.
 pub const LEVELS: usize = EVENTS as usize;
 
-// What the search finds: the first − edge on a cycle, as the pair from and to, or nothing.
-#[derive(Clone, Copy)]
-pub enum Found {
-    At(u8, u8),
-    Nothing,
-}
-
-// The answer of the loop test: what the search finds, and the level of each event, which is how many events reach it.
+// The answer of the loop test: what the search finds, which is the first − edge on a cycle, as the pair from and to; and the level of each event, which is how many events reach it.
 #[derive(Clone, Copy)]
 pub struct Tested {
-    pub found: Found,
+    pub found: Option<(u8, u8)>,
     pub levels: [u8; LEVELS],
 }
 
@@ -37,29 +30,24 @@ pub struct Tested {
 fn on_cycle(minus: &Rows, reach: &Rows, a: u8, b: u8) -> bool
     ensures { result ≡ (edges_of minus.now a b && edges_of reach.now b a) }
 {
-    if leads(minus, a, b) {
-        return leads(reach, b, a);
-    }
-    false
+    leads(minus, a, b) && leads(reach, b, a)
 }
 
 // The first − edge on a cycle, in order of from and then to.
-fn first_cycle(minus: &Rows, reach: &Rows) -> Found
+fn first_cycle(minus: &Rows, reach: &Rows) -> Option<(u8, u8)>
     ensures { result ≡ found_at (first_below PAIRS (cycle_at (edges_of minus.now) (edges_of reach.now))) }
 {
-    let mut from: u8 = 0;
-    'search: loop {
-        if from == EVENTS {
-            break 'search Found::Nothing;
-        }
-        if reach_row::some(&minus[widths::index(from)]) {
-            for to in 0..EVENTS {
-                if on_cycle(minus, reach, from, to) {
-                    break 'search Found::At(from, to);
+    'search: {
+        for from in 0..EVENTS {
+            if reach_row::some(&minus[widths::index(from)]) {
+                for to in 0..EVENTS {
+                    if on_cycle(minus, reach, from, to) {
+                        break 'search Some((from, to));
+                    }
                 }
             }
         }
-        from += 1;
+        None
     }
 }
 
@@ -72,7 +60,7 @@ fn count_row(counts: &mut [u8; LEVELS], row: &Row)
 {
     for e in 0..EVENTS {
         let i = widths::index(e);
-        counts[i] = counts[i] + widths::one(reach_row::reaches(row, e));
+        counts[i] += widths::one(reach_row::reaches(row, e));
     }
 }
 
@@ -81,8 +69,8 @@ fn levels(reach: &Rows) -> [u8; LEVELS]
     ensures { result ≡ tabulate EVENTS (λ e. count_below EVENTS (λ x. edges_of reach.now x e)) }
 {
     let mut r = [0; LEVELS];
-    for x in 0..LEVELS {
-        count_row(&mut r, &reach[x]);
+    for row in reach {
+        count_row(&mut r, row);
     }
     r
 }
@@ -101,8 +89,5 @@ pub fn loop_test(triggers: &[u8], n: u16) -> Tested
     let reach = reach::closed(drawn);
     let found = first_cycle(&minus, &reach);
     let levels = levels(&reach);
-    Tested {
-        found: found,
-        levels: levels,
-    }
+    Tested { found, levels }
 }

@@ -5,16 +5,14 @@ ghost use Rattle.std.specs.Prelude.{◌≡◌, get_or};
 ghost use Rattle.masks.specs.Masks.{with_priority, joined_at};
 ghost use Rattle.masks.specs.Joins.{joined_where};
 
+use tables::at_or;
 use theory::PRIORITIES;
 
 // The number at i; 0 past the end.
 pub fn number(buffer: &[u16], i: usize) -> u16
     ensures { result ≡ get_or buffer.now i 0 }
 {
-    if i < buffer.len() {
-        return buffer[i];
-    }
-    0
+    at_or(buffer, i, 0)
 }
 
 // The mask with the priority p.
@@ -22,10 +20,10 @@ fn with_priority(mask: u16, p: u8) -> u16
     ensures { result ≡ with_priority mask p }
 {
     if p < PRIORITIES {
-        let weight: u16 = 1 << p;
-        return mask | weight;
+        mask | (1 << p)
+    } else {
+        mask
     }
-    mask
 }
 
 // The priority p joins the buffer's number `at`; past the end nothing is written.

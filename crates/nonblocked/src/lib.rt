@@ -18,8 +18,8 @@ const EMPTY: u32 = PRIORITIES as u32;
 fn alive(own: u16, against: u16, e: u8) -> bool
     ensures { result ≡ alive_in own against e }
 {
-    let a = u16::leading_zeros(own);
-    let b = u16::leading_zeros(against);
+    let a = own.leading_zeros();
+    let b = against.leading_zeros();
     if e % 2 == 1 {
         return a < b;
     }

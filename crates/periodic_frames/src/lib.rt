@@ -12,22 +12,9 @@ use tables::PERIODIC_BYTES;
 pub fn periodic_row(line: &[u8]) -> [u8; PERIODIC_BYTES]
     ensures { result ≡ periodic_row (bytes_of line.now) }
 {
-    [
-        byte_at(line, 1),
-        byte_at(line, 2),
-        byte_at(line, 3),
-        byte_at(line, 4),
-        byte_at(line, 5),
-        byte_at(line, 6),
-        byte_at(line, 7),
-        byte_at(line, 8),
-        byte_at(line, 9),
-        byte_at(line, 10),
-        byte_at(line, 11),
-        byte_at(line, 12),
-        byte_at(line, 13),
-        byte_at(line, 14),
-        byte_at(line, 15),
-        byte_at(line, 16),
-    ]
+    let mut row = [0u8; PERIODIC_BYTES];
+    for (i, b) in row.iter_mut().enumerate() {
+        *b = byte_at(line, 1 + i);
+    }
+    row
 }

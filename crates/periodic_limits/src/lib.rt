@@ -32,6 +32,7 @@ fn end_fits(begin: u32, end: u32) -> bool
 }
 
 // The number of the first field that is outside its limit, in frame order; 7 where none is.
+// Kept: a number where an Option could be, for the public contract says the definition `first_failing`, which has their count where none fails.
 pub fn first_bad_periodic(w: PeriodicRow, roles: u8) -> u8
     ensures { result ≡ first_failing (periodic_tests roles (periodic_of w)) }
 {

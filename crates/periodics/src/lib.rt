@@ -6,10 +6,10 @@ ghost use Rattle.tables.specs.Layout.{two, four, periodic_at};
 ghost use Rattle.periodics.specs.Rows.{periodic_of};
 
 use tables::{PERIODIC_BYTES, byte};
-use widths::{pair, row_index};
+use widths::row_index;
 
 // A periodic row, field by field.
-#[derive(Clone, Copy)]
+#[derive(Clone, Copy, PartialEq, Eq, Debug)]
 pub struct PeriodicRow {
     pub begin: u32,
     pub end: u32,
@@ -23,9 +23,9 @@ pub struct PeriodicRow {
 // The number of two bytes at i, high byte first.
 fn two_bytes(table: &[u8], i: usize) -> u32
     requires { i < 1048640 }
-    ensures { (result ≡ two table.now i) × (result < 65536) }
+    ensures { result ≡ two table.now i }
 {
-    pair(byte(table, i), byte(table, i + 1))
+    u32::from(u16::from_be_bytes([byte(table, i), byte(table, i + 1)]))
 }
 
 // The number of four bytes at i, high byte first.
@@ -33,7 +33,12 @@ fn four_bytes(table: &[u8], i: usize) -> u32
     requires { i < 1048600 }
     ensures { result ≡ four table.now i }
 {
-    65536 * two_bytes(table, i) + two_bytes(table, i + 2)
+    u32::from_be_bytes([
+        byte(table, i),
+        byte(table, i + 1),
+        byte(table, i + 2),
+        byte(table, i + 3),
+    ])
 }
 
 // Row i of a periodic table.

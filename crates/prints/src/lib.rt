@@ -8,7 +8,6 @@ ghost use Rattle.prints.specs.Print.{digit_of, hex_of, check_of, line_of};
 
 use frames::TEN_BELOW_A;
 use text::LINE_END;
-use widths::wide;
 
 // The character of a digit.
 fn glyph(d: u8) -> u8
@@ -22,24 +21,21 @@ fn glyph(d: u8) -> u8
 }
 
 // The sum of the frame's bytes, less the multiples of 256.
-fn total(frame: &[u8]) -> u32
+fn total(frame: &[u8]) -> u8
     ensures { result ≡ sum frame.now % 256 }
 {
-    let mut t: u32 = 0;
-    let mut i: usize = 0;
-    while i < frame.len() {
-        t = (t + wide(frame[i])) % 256;
-        i += 1;
+    let mut sum: u8 = 0;
+    for b in frame {
+        sum = sum.wrapping_add(*b);
     }
-    t
+    sum
 }
 
 // The frame's last byte.
 fn check_of(frame: &[u8]) -> u8
     ensures { result ≡ check_of frame.now }
 {
-    let t = total(frame);
-    ((256 - t) % 256) as u8
+    total(frame).wrapping_neg()
 }
 
 // A byte's two digits over the buffer's bytes from `at` on.
@@ -58,10 +54,8 @@ fn put_hex(out: &mut [u8], at: usize, frame: &[u8])
     requires { at + 2 * length frame.now ≤ length out.old }
     ensures { out.new ≡ paste out.old at (hex_of frame.now) (2 * length frame.now) }
 {
-    let mut j: usize = 0;
-    while j < frame.len() {
-        put_byte(out, at + 2 * j, frame[j]);
-        j += 1;
+    for (j, b) in frame.iter().enumerate() {
+        put_byte(out, at + 2 * j, *b);
     }
 }
 

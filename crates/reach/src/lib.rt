@@ -19,10 +19,7 @@ fn take_over(rows: &mut Rows, a: u8, k: u8)
     let i = widths::index(a);
     let j = widths::index(k);
     if reach_rows::leads(rows, a, k) {
-        let x = rows[i];
-        let y = rows[j];
-        let z = reach_row::joined(x, y);
-        rows[i] = z;
+        rows[i] = reach_row::joined(rows[i], rows[j]);
     }
 }
 

@@ -25,10 +25,7 @@ pub fn none() -> Row
 pub fn reaches(row: &Row, b: u8) -> bool
     ensures { result ≡ reaches row.now b }
 {
-    if b < EVENTS {
-        return row[widths::index(b)];
-    }
-    false
+    b < EVENTS && row[widths::index(b)]
 }
 
 // The row with event b added, where `on`. What is no event joins no row.
@@ -36,20 +33,19 @@ pub fn with(row: &mut Row, b: u8, on: bool)
     ensures { (f : ℕ → Bool) → RowIs f row.old → RowIs (λ x. f x || (on && eqb b x)) row.new }
 {
     let i = widths::index(b);
-    if on {
-        if i < PLACES {
-            row[i] = true;
-        }
+    if on && i < PLACES {
+        row[i] = true;
     }
 }
 
 // The events of either row.
+// Kept: one index stands for both rows; `for (a, b) in r.iter_mut().zip(y)` with `*a |= b` is no plainer.
 pub fn joined(x: Row, y: Row) -> Row
     ensures { (f g : ℕ → Bool) → RowIs f x → RowIs g y → RowIs (λ b. f b || g b) result }
 {
     let mut r = x;
     for b in 0..PLACES {
-        r[b] = r[b] | y[b];
+        r[b] |= y[b];
     }
     r
 }
@@ -58,9 +54,5 @@ pub fn joined(x: Row, y: Row) -> Row
 pub fn some(row: &Row) -> bool
     ensures { result ≡ any_below EVENTS (reaches row.now) }
 {
-    let mut any = false;
-    for b in 0..PLACES {
-        any = any | row[b];
-    }
-    any
+    row.contains(&true)
 }

@@ -22,62 +22,51 @@ use tables::{Counts, PERIODIC_TABLE, TRIGGER_TABLE};
 // A sheet has at most so many bytes.
 pub const SHEET_BYTES: usize = 16384;
 
-// The answer of the reader: the counts of what was read, or the refusal.
-#[derive(Clone, Copy)]
-pub enum Reading {
-    Good(Counts),
-    Refused(Refusal),
-}
-
 // The reader's answer as a verdict, which `answers` turns into document 01's numbers.
-pub fn verdict_of(reading: Reading) -> Verdict
+pub fn verdict_of(reading: Result<Counts, Refusal>) -> Verdict
     ensures { result ≡ verdict_of reading }
 {
-    match reading {
-        Reading::Good(r) => Verdict::Pass,
-        Reading::Refused(r) => Verdict::Refused(r),
-    }
+    reading?;
+    Ok(())
 }
 
 // ---- the lines in order
 
-// What came of a line, or of all of them.
-#[derive(Clone, Copy)]
-enum Taken {
-    Goes(Seen),
-    Refused(Refusal),
-}
-
 // One line: its tests, and what it does.
-fn take(line: &[u8], s: Seen, periodics: &mut [u8], triggers: &mut [u8]) -> Taken
-    requires { (s.line < 16384) × ((length periodics.old ≡ PERIODIC_TABLE) × (length triggers.old ≡ TRIGGER_TABLE)) }
+fn take(
+    line: &[u8],
+    s: Seen,
+    periodics: &mut [u8; PERIODIC_TABLE],
+    triggers: &mut [u8; TRIGGER_TABLE],
+) -> Result<Seen, Refusal>
+    requires { s.line < 16384 }
     ensures { took result periodics.new triggers.new
         ≡ line_step (progress s periodics.old triggers.old) line.now }
 {
-    let v = sheet_tests::line_judged(line, s, s.line + 1);
-    match v {
-        Verdict::Pass => Taken::Goes(sheet_acts::act(line, s, periodics, triggers)),
-        Verdict::Refused(r) => Taken::Refused(r),
-    }
+    sheet_tests::line_judged(line, s, s.line + 1)?;
+    Ok(sheet_acts::act(line, s, periodics, triggers))
 }
 
 // After the last line.
-fn at_end(s: Seen) -> Taken
+fn at_end(s: Seen) -> Result<Seen, Refusal>
     requires { s.line ≤ 16384 }
     ensures { (p t : List ℕ) → took result p t ≡ at_end s.stage (progress s p t) }
 {
     let stage = s.stage;
     match stage {
-        Stage::Start => Taken::Refused(refusal_of(Name::Kind, s.line + 1)),
-        Stage::Rows => Taken::Refused(refusal_of(Name::Kind, s.line + 1)),
-        Stage::Ended => Taken::Goes(s),
+        Stage::Start => Err(refusal_of(Name::Kind, s.line + 1)),
+        Stage::Rows => Err(refusal_of(Name::Kind, s.line + 1)),
+        Stage::Ended => Ok(s),
     }
 }
 
 // The lines in order, into tables that are lent empty. (LENGTH was tested; what the tables hold after a refusal nobody asks.)
-fn read_lines(sheet: &[u8], periodics: &mut [u8], triggers: &mut [u8]) -> Taken
-    requires { (length sheet.now ≤ SHEET_BYTES)
-        × ((length periodics.old ≡ PERIODIC_TABLE) × (length triggers.old ≡ TRIGGER_TABLE)) }
+fn read_lines(
+    sheet: &[u8],
+    periodics: &mut [u8; PERIODIC_TABLE],
+    triggers: &mut [u8; TRIGGER_TABLE],
+) -> Result<Seen, Refusal>
+    requires { length sheet.now ≤ SHEET_BYTES }
     ensures { took result periodics.new triggers.new
         ≡ reads (goes (progress fresh periodics.old triggers.old)) (lines sheet.now) }
 {
@@ -91,71 +80,54 @@ fn read_lines(sheet: &[u8], periodics: &mut [u8], triggers: &mut [u8]) -> Taken
         },
     };
     let mut at: usize = 0;
-    while at < sheet.len() {
-        let e = text::line_end(sheet, at);
-        if e == sheet.len() {
-            let r = refusal_of(Name::Frame, s.line + 1);
-            return Taken::Refused(line_readers::in_line(r, &sheet[at..e], 0));
-        }
-        let w = take(&sheet[at..e], s, periodics, triggers);
-        match w {
-            Taken::Goes(n) => {
-                s = n;
-                at = e + 1;
-            }
-            Taken::Refused(r) => {
-                return Taken::Refused(r);
-            }
-        }
+    while let Some(line) = text::line_at(sheet, at) {
+        s = take(line, s, periodics, triggers)?;
+        at += line.len() + 1;
+    }
+    if at < sheet.len() {
+        let r = refusal_of(Name::Frame, s.line + 1);
+        return Err(line_readers::in_line(r, &sheet[at..], 0));
     }
     at_end(s)
 }
 
 // ---- after the last line
 
-// The whole of a lent table is replaced.
-fn copy_out(table: &mut [u8], from: &[u8])
-    requires { length from.now ≡ length table.old }
-    ensures { table.new ≡ from.now }
-{
-    tables::copy_in(table, 0, from);
-}
-
-// After the last line: LOOP is tested, and what passed is handed out. (The tables that were read into have the lengths of the lent ones.)
-fn hand_out(s: Seen, per: &[u8], trg: &[u8], periodics: &mut [u8], triggers: &mut [u8]) -> Reading
-    requires { (length per.now ≡ length periodics.old) × (length trg.now ≡ length triggers.old) }
+// After the last line: LOOP is tested, and what passed is handed out.
+fn hand_out(
+    s: Seen,
+    per: &[u8; PERIODIC_TABLE],
+    trg: &[u8; TRIGGER_TABLE],
+    periodics: &mut [u8; PERIODIC_TABLE],
+    triggers: &mut [u8; TRIGGER_TABLE],
+) -> Result<Counts, Refusal>
     ensures { read_outcome result periodics.new triggers.new
         ≡ after_lines (progress s per.now trg.now) periodics.old triggers.old }
 {
     let counts = s.counts;
     let judged = table_judge::loop_judged(trg, counts.triggers);
-    let v = judged.verdict;
-    match v {
-        Verdict::Pass => {
-            copy_out(periodics, per);
-            copy_out(triggers, trg);
-            Reading::Good(counts)
-        }
-        Verdict::Refused(r) => Reading::Refused(r),
-    }
+    judged.verdict?;
+    *periodics = *per;
+    *triggers = *trg;
+    Ok(counts)
 }
 
 // ---- the whole reading
 
-// Reads a sheet that is within its limit into tables that have their lengths.
-fn read_within(sheet: &[u8], periodics: &mut [u8], triggers: &mut [u8]) -> Reading
-    requires { (length sheet.now ≤ SHEET_BYTES)
-        × ((length periodics.old ≡ PERIODIC_TABLE) × (length triggers.old ≡ TRIGGER_TABLE)) }
+// Reads a sheet that is within its limit.
+fn read_within(
+    sheet: &[u8],
+    periodics: &mut [u8; PERIODIC_TABLE],
+    triggers: &mut [u8; TRIGGER_TABLE],
+) -> Result<Counts, Refusal>
+    requires { length sheet.now ≤ SHEET_BYTES }
     ensures { read_outcome result periodics.new triggers.new
         ≡ by_lines (reads (goes start) (lines sheet.now)) periodics.old triggers.old }
 {
     let mut per = [0u8; PERIODIC_TABLE];
     let mut trg = [0u8; TRIGGER_TABLE];
-    let w = read_lines(sheet, &mut per, &mut trg);
-    match w {
-        Taken::Goes(s) => hand_out(s, &per, &trg, periodics, triggers),
-        Taken::Refused(r) => Reading::Refused(r),
-    }
+    let s = read_lines(sheet, &mut per, &mut trg)?;
+    hand_out(s, &per, &trg, periodics, triggers)
 }
 
 // A sheet and the lent tables, of these lengths, pass LENGTH.
@@ -166,12 +138,18 @@ fn sheet_lengths_fit(sheet: usize, periodics: usize, triggers: usize) -> bool
 }
 
 // Reads a sheet: the answer, and on OK the tables. After any refusal they are what they were.
-pub fn read_sheet(sheet: &[u8], periodics: &mut [u8], triggers: &mut [u8]) -> Reading
+pub fn read_sheet(
+    sheet: &[u8],
+    periodics: &mut [u8],
+    triggers: &mut [u8],
+) -> Result<Counts, Refusal>
     ensures { read_outcome result periodics.new triggers.new
         ≡ reading sheet.now periodics.old triggers.old }
 {
     if sheet_lengths_fit(sheet.len(), periodics.len(), triggers.len()) {
-        return read_within(sheet, periodics, triggers);
+        let per = periodics.as_mut_array().unwrap();
+        let trg = triggers.as_mut_array().unwrap();
+        return read_within(sheet, per, trg);
     }
-    Reading::Refused(refusal_of(Name::Length, 0))
+    Err(refusal_of(Name::Length, 0))
 }

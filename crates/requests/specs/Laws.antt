@@ -15,9 +15,8 @@ use Rattle.theory.proofs.Laws.Below.{any_intro, any_elim}
 use Rattle.theory.proofs.Laws.Limits.{RequestWithin, request_says}
 use Rattle.theory.proofs.Laws.First.{first_none, first_past}
 use Rattle.answers.specs.declared.Name.TheVariants.{Request}
-use Rattle.answers.specs.declared.Verdict.TheVariants.{Pass}
 use Rattle.answers.proofs.Laws.{no_pass}
-use Rattle.answers.specs.Answers.{refuse}
+use Rattle.answers.specs.Answers.{refuse, pass}
 use Rattle.tables.specs.Asked as lent
 use Rattle.tables.specs.Asked.{Asked, asks}
 use Rattle.requests.specs.Requests.{fits, outside, first_outside, judge_requests, AllFit}
@@ -68,12 +67,12 @@ module _ (role_count : ℕ) (q : Asked) where
   unfolding judge_requests first_outside
   outside_here k l e = rw (← e, lt-ltb k q.count l) refl
 
-  pub outside_none : q.count ≡ first_below q.count (outside role_count q) → Pass ≡ judge_requests role_count q
+  pub outside_none : q.count ≡ first_below q.count (outside role_count q) → pass ≡ judge_requests role_count q
   unfolding judge_requests first_outside
   outside_none e = rw (← e, le-ltb q.count q.count (omega arith)) refl
 
   -- where nothing is refused, every request is within its limits
-  pub requests_pass : judge_requests role_count q ≡ Pass → AllFit role_count q
+  pub requests_pass : judge_requests role_count q ≡ pass → AllFit role_count q
   unfolding judge_requests first_outside
   requests_pass h i l =
       let k : ℕ = first_below q.count (outside role_count q) in
@@ -83,5 +82,5 @@ module _ (role_count : ℕ) (q : Asked) where
       (test (ltb k q.count))
 
   -- and the other way round
-  pub requests_fit : AllFit role_count q → judge_requests role_count q ≡ Pass
+  pub requests_fit : AllFit role_count q → judge_requests role_count q ≡ pass
   requests_fit h = sym (outside_none (sym (first_none q.count (outside role_count q) (λ k l. ap not (h k l)))))

@@ -4,9 +4,7 @@ use Rattle.std.specs.Prelude.{◌≡◌, Bool, true, not, cond, ℕ, ◌<◌, lt
 use Rattle.theory.specs.Below.{first_below}
 use Rattle.theory.specs.Instant.{request_fits}
 use Rattle.answers.specs.declared.Name.TheVariants.{Request}
-use Rattle.answers.specs.declared.Verdict.{Verdict}
-use Rattle.answers.specs.declared.Verdict.TheVariants.{Pass}
-use Rattle.answers.specs.Answers.{refuse}
+use Rattle.answers.specs.Answers.{refuse, Verdict, pass}
 use Rattle.tables.specs.Asked as lent
 use Rattle.tables.specs.Asked.{Asked}
 
@@ -28,4 +26,4 @@ first_outside role_count q = first_below q.count (outside role_count q)
 
 -- REQUEST at its number, from 0
 unfoldable pub judge_requests : ℕ → Asked → Verdict
-judge_requests role_count q = cond (ltb (first_outside role_count q) q.count) (refuse Request (first_outside role_count q)) Pass
+judge_requests role_count q = cond (ltb (first_outside role_count q) q.count) (refuse Request (first_outside role_count q)) pass

@@ -1,10 +1,12 @@
-// The requests of one instant, as flat numbers: each of them, whether it is within its limits, and REQUEST at the first of n that is not.
+// The requests of one instant, as flat numbers: each of them, one put in, whether it is within its limits, and REQUEST at the first of n that is not.
 #![tactic(auto)]
 
-ghost use Rattle.std.specs.Prelude.{◌≡◌};
+ghost use Rattle.std.specs.Prelude.{◌≡◌, ◌<◌};
+ghost use Rattle.theory.specs.Numbers.{REQUESTS};
 ghost use Rattle.tables.specs.Asked.{request_at, flat};
 ghost use Rattle.requests.specs.Requests.{fits, judge_requests};
 ghost use Rattle.requests.specs.Asked.{request_of};
+ghost use Rattle.requests.specs.Flat.{put_at};
 
 use answers::{Name, Verdict, refuse};
 use periodic_limits::of_roles;
@@ -35,6 +37,17 @@ pub fn request_at(asked: &[u8], k: u16) -> Request
     }
 }
 
+// A request becomes request i of flat numbers. (For those alone who fill them, who have shown that there are not more.)
+pub fn put(numbers: &mut [u8; FLAT_NUMBERS], i: usize, r: Request)
+    requires { i < REQUESTS }
+    ensures { numbers.new ≡ put_at numbers.old i (request_of r) }
+{
+    let at = REQUEST_BYTES * i;
+    numbers[at] = r.event;
+    numbers[at + 1] = r.priority;
+    numbers[at + 2] = r.delay;
+}
+
 // A request is within its limits.
 pub fn request_fits(roles: u8, r: Request) -> bool
     ensures { result ≡ fits roles (request_of r) }
@@ -49,12 +62,10 @@ pub fn request_fits(roles: u8, r: Request) -> bool
 pub fn judge_requests(roles: u8, asked: &[u8], n: u16) -> Verdict
     ensures { result ≡ judge_requests roles (flat asked.now n) }
 {
-    let mut k: u16 = 0;
-    while k < n {
+    for k in 0..n {
         if !request_fits(roles, request_at(asked, k)) {
             return refuse(Name::Request, k as u32);
         }
-        k += 1;
     }
-    Verdict::Pass
+    Ok(())
 }

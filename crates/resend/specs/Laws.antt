@@ -1,20 +1,18 @@
 -- What is proved of a sheet that is read and written again: what was read is never refused by the writer, and two outcomes are equal.
 -- Assumes nothing.
-use Rattle.std.specs.Prelude.{◌≡◌, refl, List, ℕ, ◌-◌, ◌≤◌, length, take, drop, replicate}
+use Rattle.std.specs.Prelude.{◌≡◌, refl, List, ℕ, ◌-◌, ◌≤◌, length, take, drop, replicate, Err, Ok, Result}
 use Rattle.std.proofs.Common.{sym, ap, ◌∙◌, subst, arith, length-take-le}
 use Rattle.std.proofs.Math.Logic.{by_cases}
 use Rattle.std.proofs.Math.Decide.{dec_le, ℕ_discrete}
 use Rattle.theory.specs.Numbers.{SHEET_BYTES}
 use Rattle.answers.specs.declared.Name.TheVariants.{Length}
 use Rattle.answers.specs.declared.Refusal.{Refusal}
-use Rattle.answers.specs.declared.Verdict.TheVariants.{Pass}
-use Rattle.answers.specs.Answers.{refusal}
+use Rattle.answers.specs.Answers.{refusal, verdict_of, pass}
+use Rattle.answers.proofs.Laws.{no_pass}
 use Rattle.text.specs.Lines.{lines}
 use Rattle.tables.specs.declared.Counts.{Counts}
 use Rattle.tables.specs.Layout.{PERIODIC_TABLE, TRIGGER_TABLE}
 use Rattle.tables.specs.Lent.{Tables, tables_of, rules}
-use Rattle.reader.specs.declared.Reading.{Reading}
-use Rattle.reader.specs.declared.Reading.TheVariants.{Good, Refused}
 use Rattle.reader.specs.Out.{ReadOutcome, read_outcome}
 use Rattle.reader.specs.Reading.{reading}
 use Rattle.accepted.specs.Laws.Accepted.{reading_good, reading_passes, reading_sizes}
@@ -25,10 +23,10 @@ use Rattle.day_split.specs.Split.{sheet_bytes, sheet_part}
 use Rattle.day_split.specs.Parted.{parted}
 use Rattle.day_input.specs.Opening.{INPUT_BYTES, sheet_reading}
 use Rattle.resend.specs.declared.Resent.{Resent}
-use Rattle.resend.specs.Resend.{sent_of, unsent, NothingSent, Again, ByAnswer, AfterReading, ResendOutcome}
+use Rattle.resend.specs.Resend.{NothingSent, Again, ByAnswer, AfterReading, ResendOutcome}
 
 module _ (input p t : List ℕ) (zero-periodics : p ≡ replicate PERIODIC_TABLE 0) (zero-triggers : t ≡ replicate TRIGGER_TABLE 0)
-    (s : Parts) (split : s ≡ parted 0 0 (lines input)) (inside : s.bytes ≤ length input) (a : Reading) (p' t' : List ℕ)
+    (s : Parts) (split : s ≡ parted 0 0 (lines input)) (inside : s.bytes ≤ length input) (a : Result Counts Refusal) (p' t' : List ℕ)
     (read : read_outcome a p' t' ≡ reading (take (s.bytes - 0) (drop 0 input)) p t) where
   -- where the sheet ends
   ends : s.bytes ≡ sheet_bytes (lines input)
@@ -40,25 +38,37 @@ module _ (input p t : List ℕ) (zero-periodics : p ≡ replicate PERIODIC_TABLE
       let b : s.bytes - 0 ≡ sheet_bytes (lines input) = omega (arith, ends) in
       read ∙ λ i. reading (take (b i) input) (zero-periodics i) (zero-triggers i)
 
-  pub was_refused : (x : Refusal) → a ≡ Refused x → (out : List ℕ) (r : Resent) (out' : List ℕ) → r ≡ unsent x → out' ≡ out → AfterReading input (sheet_reading input) out r out'
+  pub was_refused : (x : Refusal) → a ≡ Err x → (out : List ℕ) (r : Result Resent Refusal) (out' : List ℕ) → r ≡ Err x → out' ≡ out → AfterReading input (sheet_reading input) out r out'
   was_refused x e out r out' f g =
-      subst (λ (o : ReadOutcome). AfterReading input o out r out') is_read (subst (λ (y : Reading). ByAnswer input y (tables_of p' t') out r out') (sym e) (f, g))
+      subst (λ (o : ReadOutcome). AfterReading input o out r out') is_read (subst (λ (y : Result Counts Refusal). ByAnswer input y (tables_of p' t') out r out') (sym e) (f, g))
 
-  pub was_read : (counts : Counts) → a ≡ Good counts → (out : List ℕ) → length out ≡ SHEET_BYTES → (r : Resent) (out' : List ℕ)
-      → WriteOutcome (rules counts p' t') out (sent_of r) out' × (r.from ≡ s.bytes) → AfterReading input (sheet_reading input) out r out'
-  was_read counts e out whole r out' w =
-      let said : reading (sheet_part input) (replicate PERIODIC_TABLE 0) (replicate TRIGGER_TABLE 0) ≡ read_outcome (Good counts) p' t' = sym is_read ∙ ap (λ (y : Reading). read_outcome y p' t') e in
-      let sizes = reading_sizes _ _ _ counts p' t' said in
-      let passes : Passes (rules counts p' t') (length out) =
-      record { periodic_bytes = sizes.0; trigger_bytes = sizes.1; buffer = whole; tables = reading_passes _ _ _ counts p' t' said } in
-      let v : r.verdict ≡ Pass = w.0.verdict ∙ passes_so (rules counts p' t') (length out) passes in
-      let n : length (sheet_part input) ≡ sheet_bytes (lines input) = length-take-le (sheet_bytes (lines input)) input (omega (arith, inside, ends)) in
-      let again : Again input (rules counts p' t') out r out' = record { verdict = v; front = w.0.passed v; from = w.1 ∙ ends ∙ sym n } in
-      subst (λ (o : ReadOutcome). AfterReading input o out r out') is_read (subst (λ (y : Reading). ByAnswer input y (tables_of p' t') out r out') (sym e) again)
+  module _ (counts : Counts) (e : a ≡ Ok counts) (out : List ℕ) where
+    said : reading (sheet_part input) (replicate PERIODIC_TABLE 0) (replicate TRIGGER_TABLE 0) ≡ read_outcome (Ok counts) p' t'
+    said = sym is_read ∙ ap (λ (y : Result Counts Refusal). read_outcome y p' t') e
+
+    -- what was read the writer takes
+    pub was_taken : length out ≡ SHEET_BYTES → (w : Result ℕ Refusal) (out' : List ℕ) → WriteOutcome (rules counts p' t') out w out' → verdict_of w ≡ pass
+    was_taken whole w out' o =
+        let sizes = reading_sizes _ _ _ counts p' t' said in
+        let passes : Passes (rules counts p' t') (length out) =
+        record { periodic_bytes = sizes.0; trigger_bytes = sizes.1; buffer = whole; tables = reading_passes _ _ _ counts p' t' said } in
+        o.verdict ∙ passes_so (rules counts p' t') (length out) passes
+
+    pub never_refused : {C : Type 0} → length out ≡ SHEET_BYTES → (w : Result ℕ Refusal) (out' : List ℕ) → WriteOutcome (rules counts p' t') out w out' → (x : Refusal) → w ≡ Err x → C
+    never_refused whole w out' o x f = no_pass x (sym (ap verdict_of f) ∙ was_taken whole w out' o)
+
+    pub was_read : (w : Result ℕ Refusal) (out' : List ℕ) → WriteOutcome (rules counts p' t') out w out' → (written : ℕ) → w ≡ Ok written
+        → AfterReading input (sheet_reading input) out (Ok (record { length = written; from = s.bytes })) out'
+    was_read w out' o written f =
+        let r : Result Resent Refusal = Ok (record { length = written; from = s.bytes }) in
+        let n : length (sheet_part input) ≡ sheet_bytes (lines input) = length-take-le (sheet_bytes (lines input)) input (omega (arith, inside, ends)) in
+        let again : Again input (rules counts p' t') out r out' =
+        record { resent = record { length = written; from = s.bytes }; answer = refl; front = o.passed written f; from = ends ∙ sym n } in
+        subst (λ (z : ReadOutcome). AfterReading input z out r out') is_read (subst (λ (y : Result Counts Refusal). ByAnswer input y (tables_of p' t') out r out') (sym e) again)
 
 -- ---- two outcomes are equal
 
-module _ (input out : List ℕ) (r r' : Resent) (out' out'' : List ℕ) where
+module _ (input out : List ℕ) (r r' : Result Resent Refusal) (out' out'' : List ℕ) where
   abbrev Same : Type 0
   Same = (r ≡ r') × (out' ≡ out'')
 
@@ -66,12 +76,13 @@ module _ (input out : List ℕ) (r r' : Resent) (out' out'' : List ℕ) where
   same_kept x a b = (a.0 ∙ sym b.0, a.1 ∙ sym b.1)
 
   -- by the answer of the reading
-  same_answer : (a : Reading) (tables : Tables) → sheet_reading input ≡ record { answer = a; tables = tables } → ByAnswer input a tables out r out' → ByAnswer input a tables out r' out'' → Same
-  same_answer (Refused x) tables e f g = same_kept x f g
-  same_answer (Good counts) tables e f g =
+  same_answer : (a : Result Counts Refusal) (tables : Tables) → sheet_reading input ≡ record { answer = a; tables = tables } → ByAnswer input a tables out r out' → ByAnswer input a tables out r' out'' → Same
+  same_answer (Err x) tables e f g = same_kept x f g
+  same_answer (Ok counts) tables e f g =
       let good = (reading_good (sheet_part input) _ _ counts tables.periodics tables.triggers e).0 in
-      let one = front_one (record { counts = counts; tables = tables }) good out (sent_of r) (sent_of r') out' out'' f.front g.front in
-      ((λ i. record { verdict = (f.verdict ∙ sym g.verdict) i; length = one.0 i; from = (f.from ∙ sym g.from) i }), one.1)
+      let one = front_one (record { counts = counts; tables = tables }) good out f.resent.length g.resent.length out' out'' f.front g.front in
+      let same : f.resent ≡ g.resent = λ i. record { length = one.0 i; from = (f.from ∙ sym g.from) i } in
+      (f.answer ∙ ap Ok same ∙ sym g.answer, one.1)
 
   -- THE THEOREM
   pub resend_exact : ResendOutcome input out r out' → ResendOutcome input out r' out'' → Same

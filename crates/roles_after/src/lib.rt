@@ -12,7 +12,6 @@ ghost use Rattle.roles_after.specs.After.{with_role, roles_below};
 use nonblocked::live;
 use roles::role_on;
 use theory::{EVENTS, ROLES};
-use widths::one;
 
 // Role r is enabled after the instant: a nonblocked enable adds it, a nonblocked disable removes it, else it is kept.
 fn on_after(roles: u64, events: &[u16], r: u8) -> bool
@@ -25,6 +24,7 @@ fn on_after(roles: u64, events: &[u16], r: u8) -> bool
 }
 
 // The roles with role r, where `on`.
+// Kept: `masks::with_priority` sets a bit of 16; one function for both would end there in a cast, to be shown that it loses none.
 fn with_role(roles: u64, r: u8, on: bool) -> u64
     ensures { result ≡ with_role roles r on }
 {
@@ -53,10 +53,6 @@ pub fn roles_after(roles: u64, events: &[u16]) -> u64
 pub fn count(events: &[u16]) -> u8
     ensures { result ≡ count_below EVENTS (nonblocked (events_of events.now) (events_of events.now)) }
 {
-    let mut n: u8 = 0;
-    for e in 0..EVENTS {
-        let t = live(events, e);
-        n = n + one(t);
-    }
-    n
+    let n = (0..EVENTS).filter(|e| live(events, *e)).count();
+    n as u8
 }

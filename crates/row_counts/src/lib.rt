@@ -9,7 +9,6 @@ ghost use Rattle.row_counts.specs.Counts.{room_for, counts_agree};
 use frames::{byte_at, two_at};
 use kinds::{END, PERIODIC, TRIGGER};
 use theory::{PERIODIC_ROWS, TRIGGER_ROWS};
-use widths::wide;
 
 // A frame of kind k passes TOO MANY, after so many rows.
 pub fn has_room(k: u8, periodics: u16, triggers: u16) -> bool
@@ -34,20 +33,13 @@ fn counts_agree(k: u8, a: u32, b: u32, periodics: u32, triggers: u32) -> bool
     true
 }
 
-// A number of rows as a number of 32 bits.
-fn wide16(x: u16) -> u32
-    ensures { result ≡ x }
-{
-    x as u32
-}
-
 // A line's frame of kind k passes COUNT.
 pub fn end_agrees(line: &[u8], k: u8, periodics: u16, triggers: u16) -> bool
     ensures { result
         ≡ counts_agree k (byte_at (bytes_of line.now) 1)
         (two (bytes_of line.now) 2) periodics triggers }
 {
-    let a = wide(byte_at(line, 1));
+    let a = u32::from(byte_at(line, 1));
     let b = two_at(line, 2);
-    counts_agree(k, a, b, wide16(periodics), wide16(triggers))
+    counts_agree(k, a, b, u32::from(periodics), u32::from(triggers))
 }

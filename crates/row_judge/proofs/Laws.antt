@@ -13,8 +13,7 @@ use Rattle.theory.specs.Sheet.{Sheet, periodic_fits, trigger_fits}
 use Rattle.theory.proofs.Laws.Tests.{and_left, and_right}
 use Rattle.theory.proofs.Laws.First.{first_same}
 use Rattle.answers.specs.declared.Name.TheVariants.{Field, TooMany}
-use Rattle.answers.specs.declared.Verdict.TheVariants.{Pass}
-use Rattle.answers.specs.Answers.{refuse}
+use Rattle.answers.specs.Answers.{refuse, pass}
 use Rattle.row_judge.specs.Judge.{few_rows, roles_fit, row_count, row_fits, first_unfit, judge_rows}
 
 -- two limits at once
@@ -55,7 +54,7 @@ module _ (sh : Sheet) where
         unfolding judge_rows
         rows_unfit l = rw (sym p ∙ f, sym q ∙ r, sym u, lt-ltb first (row_count sh) l) refl
 
-        pub rows_fit : row_count sh ≤ first → Pass ≡ judge_rows sh
+        pub rows_fit : row_count sh ≤ first → pass ≡ judge_rows sh
         unfolding judge_rows
         rows_fit l = rw (sym p ∙ f, sym q ∙ r, sym u, le-ltb first (row_count sh) l) refl
 

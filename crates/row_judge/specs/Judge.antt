@@ -5,9 +5,7 @@ use Rattle.theory.specs.Numbers.{ROLES, PERIODIC_ROWS, TRIGGER_ROWS}
 use Rattle.theory.specs.Below.{first_below}
 use Rattle.theory.specs.Sheet.{Sheet, periodic_fits, trigger_fits}
 use Rattle.answers.specs.declared.Name.TheVariants.{Field, TooMany}
-use Rattle.answers.specs.declared.Verdict.{Verdict}
-use Rattle.answers.specs.declared.Verdict.TheVariants.{Pass}
-use Rattle.answers.specs.Answers.{refuse}
+use Rattle.answers.specs.Answers.{refuse, Verdict, pass}
 
 -- passes TOO MANY: neither count of rows is over its limit
 unfoldable pub few_rows : Sheet → Bool
@@ -37,6 +35,6 @@ unfoldable pub judge_rows : Sheet → Verdict
 judge_rows sh =
     cond (few_rows sh)
     (cond (roles_fit sh)
-    (cond (ltb (first_unfit sh) (row_count sh)) (refuse Field (first_unfit sh)) Pass)
+    (cond (ltb (first_unfit sh) (row_count sh)) (refuse Field (first_unfit sh)) pass)
     (refuse Field 0))
     (refuse TooMany 0)

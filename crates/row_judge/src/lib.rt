@@ -24,17 +24,16 @@ fn row_fits(counts: Counts, periodics: &[u8], triggers: &[u8], k: u16) -> bool
 }
 
 // The first row that does not; the number of rows where all do. (For the judge alone, which has shown that the rows are few.)
+// Kept: a number where an Option could be, for the definition `first_unfit` has the number of rows where all do, and `judge_rows` compares it with that.
 fn first_unfit(counts: Counts, periodics: &[u8], triggers: &[u8]) -> u16
     requires { (counts.periodics ≤ PERIODIC_ROWS) × (counts.triggers ≤ TRIGGER_ROWS) }
     ensures { result ≡ first_unfit (sheet_in (rules counts periodics.now triggers.now)) }
 {
     let rows = counts.periodics + counts.triggers;
-    let mut k: u16 = 0;
-    while k < rows {
+    for k in 0..rows {
         if !row_fits(counts, periodics, triggers, k) {
             return k;
         }
-        k += 1;
     }
     rows
 }
@@ -69,5 +68,5 @@ pub fn rows_judged(counts: Counts, periodics: &[u8], triggers: &[u8]) -> Verdict
     if first < counts.periodics + counts.triggers {
         return refuse(Name::Field, first as u32);
     }
-    Verdict::Pass
+    Ok(())
 }

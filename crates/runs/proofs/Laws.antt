@@ -15,7 +15,6 @@ use Rattle.theory.specs.Model.{Stream, no_roles}
 use Rattle.theory.specs.Box.{State, Step, Run, Within}
 use Rattle.theory.proofs.Laws.Exists.{is_only}
 use Rattle.theory.proofs.Laws.Run.{canonical_run}
-use Rattle.answers.specs.declared.Verdict.TheVariants.{Pass}
 use Rattle.tables.specs.Layout.{sheet_of}
 use Rattle.tables.specs.Buffers.{roles_of, events_of, waiting_of}
 use Rattle.tables.specs.Asked.{Asked, asks}
@@ -28,6 +27,7 @@ use Rattle.step.specs.Outcome.{Outcome}
 use Rattle.step.proofs.Laws.Passes.{StepAccepted, step_passes}
 use Rattle.step.proofs.Laws.Used.{outcome_used}
 use Rattle.runs.specs.Runs.{HandedOn, Steps, GoesOn, IsPapers}
+use Rattle.answers.specs.Answers.{pass}
 
 -- the same state, whatever the events buffers hold
 handed_state : (a b : Lent) → HandedOn a b → state_in b ≡ state_in a
@@ -35,14 +35,14 @@ handed_state a b h = λ i. record { instant = h.instant i; roles = roles_of (h.r
 
 -- each step is one with the tables of the sheet itself
 pub under_sheet : (n : ℕ) (R : Rules) (tables : ℕ → Rules) (asked : ℕ → Asked) (before after : ℕ → Lent) → Steps n R tables asked before after → (t : ℕ) → t < n
-    → Outcome R (asked t) (before t) Pass (after t)
-under_sheet n R tables asked before after steps t l = (outcome_used R (tables t) (steps.one_sheet t l) (asked t) (before t) Pass (after t)).1 (steps.ok t l)
+    → Outcome R (asked t) (before t) pass (after t)
+under_sheet n R tables asked before after steps t l = (outcome_used R (tables t) (steps.one_sheet t l) (asked t) (before t) pass (after t)).1 (steps.ok t l)
 
 module _ (n : ℕ) (R : Rules) (tables : ℕ → Rules) (asked : ℕ → Asked) (before after : ℕ → Lent) (steps : Steps (suc n) R tables asked before after) where
   abbrev sh : Sheet
   sh = sheet_in R
 
-  passes : (t : ℕ) → t < suc n → Outcome R (asked t) (before t) Pass (after t)
+  passes : (t : ℕ) → t < suc n → Outcome R (asked t) (before t) pass (after t)
   passes = under_sheet (suc n) R tables asked before after steps
 
   -- what each step tested

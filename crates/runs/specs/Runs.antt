@@ -4,12 +4,12 @@ use Rattle.std.specs.Prelude.{◌≡◌, true, ℕ, suc, ◌≤◌, ◌<◌, rep
 use Rattle.theory.specs.Numbers.{WAITING_NUMBERS}
 use Rattle.theory.specs.Instant.{request_fits}
 use Rattle.theory.specs.Model.{Stream, Trace, ExecutionModel, no_roles}
-use Rattle.answers.specs.declared.Verdict.TheVariants.{Pass}
 use Rattle.tables.specs.Buffers.{roles_of, events_of}
 use Rattle.tables.specs.Asked.{Asked, asks}
 use Rattle.tables.specs.Lent.{Rules, sheet_in, Lent}
 use Rattle.step.specs.Outcome.{Outcome}
 use Rattle.tables.specs.Used.{SameRules}
+use Rattle.answers.specs.Answers.{pass}
 
 -- instant 0, no roles, all zeros; an events buffer may hold anything
 pub record FreshLent (l : Lent) : Type 0 where
@@ -28,7 +28,7 @@ pub record HandedOn (after before : Lent) : Type 0 where
 pub record Steps (n : ℕ) (R : Rules) (tables : ℕ → Rules) (asked : ℕ → Asked) (before after : ℕ → Lent) : Type 0 where
   pub fresh : FreshLent (before 0)
   pub one_sheet : (t : ℕ) → t < n → SameRules R (tables t)
-  pub ok : (t : ℕ) → t < n → Outcome (tables t) (asked t) (before t) Pass (after t)
+  pub ok : (t : ℕ) → t < n → Outcome (tables t) (asked t) (before t) pass (after t)
   pub on : (t : ℕ) → suc t < n → HandedOn (after t) (before (suc t))
 
 -- A request stream that goes on from those requests: theirs in the first n instants, and within the limits in all later ones.

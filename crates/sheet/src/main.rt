@@ -2,16 +2,13 @@
 // believed stands in `resend`.
 #![tactic(auto)]
 
-use answers::Verdict;
-
 // Prints the sheet of an input, by way of a buffer that is lent for it, and the rest of the input; or the line of the refusal.
 fn print(input: &[u8], out: &mut [u8]) {
-    let resent = resend::resend(input, out);
-    let n = resent.length;
-    let from = resent.from;
-    let verdict = resent.verdict;
-    match verdict {
-        Verdict::Pass => {
+    let answer = resend::resend(input, out);
+    match answer {
+        Ok(resent) => {
+            let n = resent.length;
+            let from = resent.from;
             if n <= out.len() {
                 io::write_all(1, &out[0..n]);
             }
@@ -19,7 +16,7 @@ fn print(input: &[u8], out: &mut [u8]) {
                 io::write_all(1, &input[from..input.len()]);
             }
         }
-        Verdict::Refused(r) => {
+        Err(r) => {
             io::write_all(1, &printed_frames::refusal_line(r));
         }
     }

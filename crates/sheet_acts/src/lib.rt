@@ -13,7 +13,7 @@ ghost use Rattle.sheet_acts.specs.Acts.{seen_after, table_after, progress, after
 use frames::byte_at;
 use kinds::{HEADER, PERIODIC, Stage, TRIGGER};
 use sheet_tests::Seen;
-use tables::{Counts, PERIODIC_BYTES, TRIGGER_BYTES};
+use tables::{Counts, PERIODIC_BYTES, PERIODIC_TABLE, TRIGGER_BYTES, TRIGGER_TABLE};
 
 // What was read after a frame of kind k; `roles` is its role count if it is a header.
 fn seen_after(k: u8, roles: u8, s: Seen) -> Seen
@@ -21,73 +21,76 @@ fn seen_after(k: u8, roles: u8, s: Seen) -> Seen
     ensures { result ≡ seen_after k roles s }
 {
     let line = s.line + 1;
+    let stage = Stage::Rows;
     let counts = s.counts;
     if k == HEADER {
+        let counts = Counts { roles, ..counts };
         return Seen {
-            line: line,
-            stage: Stage::Rows,
-            counts: Counts {
-                roles: roles,
-                periodics: counts.periodics,
-                triggers: counts.triggers,
-            },
+            line,
+            stage,
+            counts,
         };
     }
     if k == PERIODIC {
+        let counts = Counts {
+            periodics: counts.periodics + 1,
+            ..counts
+        };
         return Seen {
-            line: line,
-            stage: Stage::Rows,
-            counts: Counts {
-                roles: counts.roles,
-                periodics: counts.periodics + 1,
-                triggers: counts.triggers,
-            },
+            line,
+            stage,
+            counts,
         };
     }
     if k == TRIGGER {
+        let counts = Counts {
+            triggers: counts.triggers + 1,
+            ..counts
+        };
         return Seen {
-            line: line,
-            stage: Stage::Rows,
-            counts: Counts {
-                roles: counts.roles,
-                periodics: counts.periodics,
-                triggers: counts.triggers + 1,
-            },
+            line,
+            stage,
+            counts,
         };
     }
     Seen {
-        line: line,
+        line,
         stage: Stage::Ended,
-        counts: counts,
+        counts,
     }
 }
 
 // The row of a periodic frame becomes row n of its table. Other frames have none.
-fn put_periodic(line: &[u8], k: u8, n: u16, table: &mut [u8])
-    requires { (k ≡ PERIODIC → n < 128) × (length table.old ≡ PERIODIC_TABLE) }
+// Kept beside `put_trigger`: one function for both would take the row or a closure that makes it. A row is made of a line of its own kind alone, for speed, and the closure's contract would be longer than the two.
+fn put_periodic(line: &[u8], k: u8, n: u16, table: &mut [u8; PERIODIC_TABLE])
+    requires { k ≡ PERIODIC → n < 128 }
     ensures { table.new ≡ table_after k PERIODIC n (periodic_row (bytes_of line.now)) table.old }
 {
     if k == PERIODIC {
         let row = periodic_frames::periodic_row(line);
-        tables::copy_in(table, PERIODIC_BYTES * widths::row_index(n), &row);
+        tables::copy_in(table, PERIODIC_BYTES * usize::from(n), &row);
     }
 }
 
 // The row of a trigger frame becomes row n of its table. Other frames have none.
-fn put_trigger(line: &[u8], k: u8, n: u16, table: &mut [u8])
-    requires { (k ≡ TRIGGER → n < 256) × (length table.old ≡ TRIGGER_TABLE) }
+fn put_trigger(line: &[u8], k: u8, n: u16, table: &mut [u8; TRIGGER_TABLE])
+    requires { k ≡ TRIGGER → n < 256 }
     ensures { table.new ≡ table_after k TRIGGER n (trigger_row (bytes_of line.now)) table.old }
 {
     if k == TRIGGER {
         let row = trigger_frames::trigger_row(line);
-        tables::copy_in(table, TRIGGER_BYTES * widths::row_index(n), &row);
+        tables::copy_in(table, TRIGGER_BYTES * usize::from(n), &row);
     }
 }
 
 // What a frame that passed does: what was read so far goes on, and a row joins its table. (For the reader alone, which has shown that the frame passed, so that there is room.)
-pub fn act(line: &[u8], s: Seen, periodics: &mut [u8], triggers: &mut [u8]) -> Seen
-    requires { ((s.line < 16384) × (room_for (kind (bytes_of line.now)) s.counts.periodics s.counts.triggers ≡ true))
-        × ((length periodics.old ≡ PERIODIC_TABLE) × (length triggers.old ≡ TRIGGER_TABLE)) }
+pub fn act(
+    line: &[u8],
+    s: Seen,
+    periodics: &mut [u8; PERIODIC_TABLE],
+    triggers: &mut [u8; TRIGGER_TABLE],
+) -> Seen
+    requires { (s.line < 16384) × (room_for (kind (bytes_of line.now)) s.counts.periodics s.counts.triggers ≡ true) }
     ensures { progress result periodics.new triggers.new
         ≡ after (progress s periodics.old triggers.old) (bytes_of line.now) }
 {

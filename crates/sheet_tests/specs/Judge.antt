@@ -2,7 +2,6 @@
 -- Assumes nothing.
 use Rattle.std.specs.Prelude.{◌&&◌, List, ℕ}
 use Rattle.answers.specs.declared.Name.TheVariants.{Count}
-use Rattle.answers.specs.declared.Verdict.{Verdict}
 use Rattle.line_readers.specs.declared.Tests.{Tests}
 use Rattle.line_readers.specs.Order.{in_order}
 use Rattle.line_readers.specs.Column.{located}
@@ -13,6 +12,7 @@ use Rattle.kinds.specs.Kinds.{kind, sized, may_stand}
 use Rattle.row_counts.specs.Counts.{room_for, counts_agree}
 use Rattle.fields.specs.Fields.{frame_fits, bad_byte}
 use Rattle.sheet_tests.specs.declared.Seen.{Seen}
+use Rattle.answers.specs.Answers.{Verdict}
 
 -- whether each test passes, of a line and of the frame that it holds
 unfoldable pub line_tests : Seen → List ℕ → Tests

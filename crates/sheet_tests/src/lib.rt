@@ -35,11 +35,11 @@ fn line_tested(line: &[u8], s: Seen, place: u32) -> Verdict
     let field = fields::frame_fits(k, roles, line);
     let count = row_counts::end_agrees(line, k, p, t);
     let tests = Tests {
-        framed: framed,
-        checked: checked,
-        kind: kind,
-        room: room,
-        field: field,
+        framed,
+        checked,
+        kind,
+        room,
+        field,
         last: count,
     };
     line_readers::in_order(tests, Name::Count, place)
@@ -49,12 +49,8 @@ fn line_tested(line: &[u8], s: Seen, place: u32) -> Verdict
 pub fn line_judged(line: &[u8], s: Seen, place: u32) -> Verdict
     ensures { result ≡ judge_line place s line.now }
 {
-    let v = line_tested(line, s, place);
-    match v {
-        Verdict::Pass => Verdict::Pass,
-        Verdict::Refused(r) => {
-            let field = fields::bad_byte(frames::byte_at(line, 0), s.counts.roles, line);
-            Verdict::Refused(line_readers::in_line(r, line, field))
-        }
-    }
+    line_tested(line, s, place).map_err(|r| {
+        let field = fields::bad_byte(frames::byte_at(line, 0), s.counts.roles, line);
+        line_readers::in_line(r, line, field)
+    })
 }

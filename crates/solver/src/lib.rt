@@ -1,8 +1,8 @@
 // The solver of one instant: givens become the one solution, where the rows are in good order and the levels meet the rule.
 #![tactic(auto)]
 
-ghost use Rattle.std.specs.Prelude.{◌≡◌, ◌≤◌, length};
-ghost use Rattle.theory.specs.Numbers.{EVENTS, TRIGGER_ROWS};
+ghost use Rattle.std.specs.Prelude.{◌≡◌, ◌≤◌};
+ghost use Rattle.theory.specs.Numbers.{TRIGGER_ROWS};
 ghost use Rattle.solver.specs.Solved.{Solved};
 
 use keys::{KEYS, chains, next};
@@ -11,8 +11,9 @@ use theory::TRIGGER_ROWS;
 use turns::settle;
 
 // The solver, key by key in rising order, on a buffer of 128 numbers and at most 256 triggers.
-fn by_keys(events: &mut [u16], levels: &[u8], triggers: &[u8], n: u16, roles: u64)
-    requires { (length events.old ≡ EVENTS) × (n ≤ TRIGGER_ROWS) }
+// Kept: `next` leaps over the keys of no trigger; over the range of all keys each would be settled or tested.
+fn by_keys(events: &mut [u16; EVENTS_NUMBERS], levels: &[u8], triggers: &[u8], n: u16, roles: u64)
+    requires { n ≤ TRIGGER_ROWS }
     ensures { Solved levels.now triggers.now n roles events.old events.new }
 {
     let chains = chains(triggers, levels, roles, n);
@@ -27,11 +28,10 @@ fn by_keys(events: &mut [u16], levels: &[u8], triggers: &[u8], n: u16, roles: u6
 pub fn solve(events: &mut [u16], levels: &[u8], triggers: &[u8], n: u16, roles: u64)
     ensures { Solved levels.now triggers.now n roles events.old events.new }
 {
-    if events.len() != EVENTS_NUMBERS {
-        return;
-    }
     if n > TRIGGER_ROWS {
         return;
     }
-    by_keys(events, levels, triggers, n, roles);
+    if let Some(whole) = events.as_mut_array() {
+        by_keys(whole, levels, triggers, n, roles);
+    }
 }

@@ -1,13 +1,11 @@
 -- A step: which refusal it gives, in document 01's order, or what it makes of the state and of the events buffer ('What comes back', 'One instant').
 -- Assumes nothing.
-use Rattle.std.specs.Prelude.{◌≡◌, Bool, cond, leb, length}
+use Rattle.std.specs.Prelude.{◌≡◌, Bool, cond, leb, length, Err}
 use Rattle.theory.specs.Numbers.{EVENTS, LAST_INSTANT, REQUESTS, WAITING_NUMBERS}
 use Rattle.theory.specs.Box.{Step}
 use Rattle.answers.specs.declared.Name.TheVariants.{Length, TooMany, Last}
 use Rattle.answers.specs.declared.Refusal.{Refusal}
-use Rattle.answers.specs.declared.Verdict.{Verdict}
-use Rattle.answers.specs.declared.Verdict.TheVariants.{Pass, Refused}
-use Rattle.answers.specs.Answers.{refuse, and_then}
+use Rattle.answers.specs.Answers.{refuse, and_then, Verdict, pass}
 use Rattle.tables.specs.Buffers.{events_of}
 use Rattle.tables.specs.Asked.{Asked, asks}
 use Rattle.tables.specs.Lent.{Rules, sheet_in, Lent, state_in}
@@ -43,5 +41,5 @@ pub record Stepped (R : Rules) (q : Asked) (before after : Lent) : Type 0 where
 -- THE OUTCOME: the verdict; after a refusal all is what it was, and else a step was made.
 pub record Outcome (R : Rules) (q : Asked) (before : Lent) (v : Verdict) (after : Lent) : Type 0 where
   pub judged : v ≡ judge_step R q before
-  pub refused : (r : Refusal) → v ≡ Refused r → after ≡ before
-  pub passed : v ≡ Pass → Stepped R q before after
+  pub refused : (r : Refusal) → v ≡ Err r → after ≡ before
+  pub passed : v ≡ pass → Stepped R q before after

@@ -1,13 +1,11 @@
 -- A step that passed LENGTH, LAST and TOO MANY of requests.
 -- Assumes nothing.
-use Rattle.std.specs.Prelude.{◌≡◌, List, ℕ, length}
+use Rattle.std.specs.Prelude.{◌≡◌, List, ℕ, length, Err}
 use Rattle.theory.specs.Numbers.{EVENTS, WAITING_NUMBERS}
 use Rattle.theory.specs.Sheet.{GoodOrder}
 use Rattle.theory.specs.Graph.{Levels}
 use Rattle.answers.specs.declared.Refusal.{Refusal}
-use Rattle.answers.specs.declared.Verdict.{Verdict}
-use Rattle.answers.specs.declared.Verdict.TheVariants.{Pass, Refused}
-use Rattle.answers.specs.Answers.{and_then}
+use Rattle.answers.specs.Answers.{and_then, Verdict, pass}
 use Rattle.tables.specs.Layout.{byte_at}
 use Rattle.tables.specs.Asked.{Asked}
 use Rattle.tables.specs.Lent.{Rules, sheet_in, Lent}
@@ -28,5 +26,5 @@ pub record Sound (R : Rules) (levels : List ℕ) (q : Asked) : Type 0 where
 -- the outcome, with the tests that are left
 pub record Inner (R : Rules) (q : Asked) (before : Lent) (v : Verdict) (after : Lent) : Type 0 where
   pub judged : v ≡ and_then (judge_tables (sheet_in R)) (judge_requests R.counts.roles q)
-  pub refused : (r : Refusal) → v ≡ Refused r → after ≡ before
-  pub passed : v ≡ Pass → Stepped R q before after
+  pub refused : (r : Refusal) → v ≡ Err r → after ≡ before
+  pub passed : v ≡ pass → Stepped R q before after

@@ -34,18 +34,12 @@ fn step_within(
 {
     let judged = table_judge::judge(counts, periodics, triggers);
     let levels = judged.levels;
-    let tables = judged.verdict;
     let requests = requests::judge_requests(counts.roles, asked, m);
-    let verdict = and_then(tables, requests);
-    match verdict {
-        Verdict::Pass => {
-            instant::act(
-                counts, periodics, triggers, asked, m, &levels, instant, enabled, waiting, events,
-            );
-            Verdict::Pass
-        }
-        Verdict::Refused(r) => Verdict::Refused(r),
-    }
+    and_then(judged.verdict, requests)?;
+    instant::act(
+        counts, periodics, triggers, asked, m, &levels, instant, enabled, waiting, events,
+    );
+    Ok(())
 }
 
 // One step, of whatever is lent. The requests are flat numbers, event, priority and delay of each; only the first n count, and n over 32 is TOO MANY.
@@ -67,18 +61,15 @@ pub fn step(
         result
         (lent instant.new enabled.new waiting.new events.new) }
 {
-    let first = step_tests::judge_first(
+    step_tests::judge_first(
         periodics.len(),
         triggers.len(),
         waiting.len(),
         events.len(),
         *instant,
         n,
-    );
-    match first {
-        Verdict::Pass => step_within(
-            counts, periodics, triggers, &asked, n as u16, instant, enabled, waiting, events,
-        ),
-        Verdict::Refused(refused) => Verdict::Refused(refused),
-    }
+    )?;
+    step_within(
+        counts, periodics, triggers, &asked, n as u16, instant, enabled, waiting, events,
+    )
 }

@@ -3,9 +3,7 @@
 use Rattle.std.specs.Prelude.{Bool, cond, ◌&&◌, ℕ, leb, eqb}
 use Rattle.theory.specs.Numbers.{EVENTS, LAST_INSTANT, REQUESTS, WAITING_NUMBERS}
 use Rattle.answers.specs.declared.Name.TheVariants.{Length, TooMany, Last}
-use Rattle.answers.specs.declared.Verdict.{Verdict}
-use Rattle.answers.specs.declared.Verdict.TheVariants.{Pass}
-use Rattle.answers.specs.Answers.{refuse}
+use Rattle.answers.specs.Answers.{refuse, Verdict, pass}
 use Rattle.tables.specs.Layout.{PERIODIC_TABLE, TRIGGER_TABLE}
 
 -- the tables and the buffers have their exact lengths
@@ -15,4 +13,4 @@ exact_lengths periodics triggers waiting events =
 
 -- LENGTH, LAST, TOO MANY of requests
 unfoldable pub judge_first : Bool → ℕ → ℕ → Verdict
-judge_first fit t n = cond fit (cond (leb t LAST_INSTANT) (cond (leb n REQUESTS) Pass (refuse TooMany 0)) (refuse Last 0)) (refuse Length 0)
+judge_first fit t n = cond fit (cond (leb t LAST_INSTANT) (cond (leb n REQUESTS) pass (refuse TooMany 0)) (refuse Last 0)) (refuse Length 0)

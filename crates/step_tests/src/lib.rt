@@ -36,5 +36,5 @@ pub fn judge_first(
     if REQUESTS < n {
         return refuse(Name::TooMany, 0);
     }
-    Verdict::Pass
+    Ok(())
 }

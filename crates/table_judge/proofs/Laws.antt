@@ -1,6 +1,6 @@
 -- What a verdict of the judge says, for callers: a pass is good order without a loop and gives levels, and each refusal says why. (`Found` and `Answer` are what the proofs of the code use.)
 -- Assumes nothing.
-use Rattle.std.specs.Prelude.{◌≡◌, ◌⊎◌, Bool, true, false, ◌&&◌, List, ℕ, ◌+◌, ◌-◌, ◌≤◌, ◌<◌, leb}
+use Rattle.std.specs.Prelude.{◌≡◌, ◌⊎◌, Bool, true, false, ◌&&◌, List, ℕ, ◌+◌, ◌-◌, ◌≤◌, ◌<◌, leb, Err}
 use Rattle.std.proofs.Math.Path.{refl, sym, ap}
 use Rattle.std.proofs.Common.{subst, ◌∙◌, arith}
 use Rattle.std.proofs.Math.Logic.{inl, inr, ⊎_elim, by_cases}
@@ -20,8 +20,7 @@ use Rattle.theory.proofs.Laws.OneSolution.{good_heads}
 use Rattle.answers.specs.declared.Name.{Name}
 use Rattle.answers.specs.declared.Name.TheVariants.{Field, TooMany, Loop}
 use Rattle.answers.specs.declared.Refusal.{Refusal}
-use Rattle.answers.specs.declared.Verdict.TheVariants.{Pass, Refused}
-use Rattle.answers.specs.Answers.{refuse, and_then}
+use Rattle.answers.specs.Answers.{refuse, and_then, pass}
 use Rattle.answers.proofs.Laws.{both_pass}
 use Rattle.tables.specs.Layout.{byte_at}
 use Rattle.loops.specs.Tested.{tested}
@@ -79,7 +78,7 @@ module _ (sh : Sheet) where
   -- ---- whatever the judge says is so
 
   -- the rows pass and are in good order, or they are refused for what the refusal says
-  pub rows_say : ((judge_rows sh ≡ Pass) × GoodOrder sh) ⊎ ((r : Refusal) × (judge_rows sh ≡ Refused r) × Says sh (Refused r))
+  pub rows_say : ((judge_rows sh ≡ pass) × GoodOrder sh) ⊎ ((r : Refusal) × (judge_rows sh ≡ Err r) × Says sh (Err r))
   unfolding first_unfit
   rows_say =
       ⊎_elim
@@ -109,11 +108,11 @@ module _ (sh : Sheet) where
   pub judge_says : Says sh (judge_tables sh)
   judge_says =
       ⊎_elim
-      (λ (x : (judge_rows sh ≡ Pass) × GoodOrder sh). subst (Says sh) (sym (tables_loop sh x.0)) (loop_say x.1))
-      (λ (y : (r : Refusal) × (judge_rows sh ≡ Refused r) × Says sh (Refused r)). subst (Says sh) (sym (tables_refused sh y.0 y.1)) y.2)
+      (λ (x : (judge_rows sh ≡ pass) × GoodOrder sh). subst (Says sh) (sym (tables_loop sh x.0)) (loop_say x.1))
+      (λ (y : (r : Refusal) × (judge_rows sh ≡ Err r) × Says sh (Err r)). subst (Says sh) (sym (tables_refused sh y.0 y.1)) y.2)
       rows_say
 
-  pub judge_passes : judge_tables sh ≡ Pass → GoodOrder sh × NoLoop sh
+  pub judge_passes : judge_tables sh ≡ pass → GoodOrder sh × NoLoop sh
   judge_passes e = subst (Says sh) e judge_says
 
   refusal_says : (n : Name) (k : ℕ) → judge_tables sh ≡ refuse n k → RefusalSays sh n k
@@ -143,7 +142,7 @@ module _ (sh : Sheet) where
         let e : k ≡ n + (k - n) = omega arith in
         ap (row_fits sh) e ∙ fits_trigger sh (k - n) ∙ g.triggers (k - n) (omega arith))
 
-    rows_pass : judge_rows sh ≡ Pass
+    rows_pass : judge_rows sh ≡ pass
     unfolding judge_rows few_rows roles_fit first_unfit
     rows_pass =
         rw (
@@ -155,7 +154,7 @@ module _ (sh : Sheet) where
           le-ltb (row_count sh) (row_count sh) (omega arith),
         ) refl
 
-    pub judge_refuses_not : NoLoop sh → judge_tables sh ≡ Pass
+    pub judge_refuses_not : NoLoop sh → judge_tables sh ≡ pass
     unfolding judge_tables judge_loop and_then
     judge_refuses_not nl = rw (rows_pass, (noloop_says sh (good_heads sh g)).1 nl) refl
 
@@ -165,7 +164,7 @@ module _ (sh : Sheet) where
 
   -- ---- the levels of a pass
 
-  module _ (e : judge_tables sh ≡ Pass) where
+  module _ (e : judge_tables sh ≡ pass) where
     levels_tested : (judged sh).levels ≡ (tested sh).levels
     unfolding judge_tables loop_judged tested
     levels_tested = ap (λ (r : Judged). r.levels) (judged_loop sh (both_pass (judge_rows sh) (judge_loop sh) e).0)

@@ -4,14 +4,12 @@ use Rattle.std.specs.Prelude.{cond, ltb}
 use Rattle.theory.specs.Sheet.{Sheet}
 use Rattle.theory.specs.LoopTest.{PAIRS, loop_place}
 use Rattle.answers.specs.declared.Name.TheVariants.{Loop}
-use Rattle.answers.specs.declared.Verdict.{Verdict}
-use Rattle.answers.specs.declared.Verdict.TheVariants.{Pass}
-use Rattle.answers.specs.Answers.{refuse, and_then}
+use Rattle.answers.specs.Answers.{refuse, and_then, Verdict, pass}
 use Rattle.row_judge.specs.Judge.{judge_rows}
 
 -- LOOP at its place
 unfoldable pub judge_loop : Sheet → Verdict
-judge_loop sh = cond (ltb (loop_place sh) PAIRS) (refuse Loop (loop_place sh)) Pass
+judge_loop sh = cond (ltb (loop_place sh) PAIRS) (refuse Loop (loop_place sh)) pass
 
 -- THE JUDGE of the tables
 unfoldable pub judge_tables : Sheet → Verdict

@@ -1,14 +1,13 @@
 -- What each verdict of the judge says of the sheet, in document 01's words. `Laws` has the theorem: whatever the judge says is so.
 -- Assumes nothing.
-use Rattle.std.specs.Prelude.{◌≡◌, ◌⊎◌, true, false, ℕ, ◌≤◌, ◌<◌}
+use Rattle.std.specs.Prelude.{◌≡◌, ◌⊎◌, true, false, ℕ, ◌≤◌, ◌<◌, Err, Ok}
 use Rattle.theory.specs.Numbers.{ROLES, PERIODIC_ROWS, TRIGGER_ROWS}
 use Rattle.theory.specs.Sheet.{Sheet, GoodOrder}
 use Rattle.theory.specs.Graph.{NoLoop, LoopAt}
 use Rattle.answers.specs.declared.Name.{Name}
 use Rattle.answers.specs.declared.Name.TheVariants.{Length, Frame, Check, Kind, Field, TooMany, Count, Loop, Request, Last}
-use Rattle.answers.specs.declared.Verdict.{Verdict}
-use Rattle.answers.specs.declared.Verdict.TheVariants.{Pass, Refused}
 use Rattle.row_judge.specs.Judge.{row_count, row_fits}
+use Rattle.answers.specs.Answers.{Verdict}
 
 -- neither count of rows is over its limit
 abbrev pub FewRows : Sheet → Type 0
@@ -39,5 +38,5 @@ RefusalSays sh Last k = ⊥
 
 -- a pass: no field and no count is outside its limit, and there is no loop; a refusal: lent tables have no lines, and it has no column
 abbrev pub Says : Sheet → Verdict → Type 0
-Says sh Pass = GoodOrder sh × NoLoop sh
-Says sh (Refused r) = RefusalSays sh r.name r.place × (r.column ≡ 0)
+Says sh (Ok tt) = GoodOrder sh × NoLoop sh
+Says sh (Err r) = RefusalSays sh r.name r.place × (r.column ≡ 0)

@@ -7,7 +7,7 @@ ghost use Rattle.tables.specs.Lent.{rules, sheet_in};
 ghost use Rattle.table_judge.specs.Judged.{judged, loop_verdict, loop_judged};
 
 use answers::{Name, Verdict, refuse};
-use loops::{Found, LEVELS};
+use loops::LEVELS;
 use tables::Counts;
 use theory::EVENTS;
 
@@ -15,6 +15,7 @@ use theory::EVENTS;
 const FROM: u32 = EVENTS as u32;
 
 // The judge's answer: the verdict, and the level of each event by the loop test; zeros where the rows are refused, for then it is not asked.
+// Kept: a verdict beside the levels, for `judge` promises the levels of what LOOP refuses too (`judged`, table_judge/Judged).
 #[derive(Clone, Copy)]
 pub struct Judged {
     pub verdict: Verdict,
@@ -24,12 +25,12 @@ pub struct Judged {
 // ---- LOOP
 
 // What the loop test found, as a verdict: LOOP at 128 × from + to.
-fn loop_verdict(found: Found) -> Verdict
+fn loop_verdict(found: Option<(u8, u8)>) -> Verdict
     ensures { result ≡ loop_verdict found }
 {
     match found {
-        Found::At(from, to) => refuse(Name::Loop, FROM * (from as u32) + to as u32),
-        Found::Nothing => Verdict::Pass,
+        Some((from, to)) => refuse(Name::Loop, FROM * (from as u32) + to as u32),
+        None => Ok(()),
     }
 }
 
@@ -42,7 +43,7 @@ pub fn loop_judged(triggers: &[u8], n: u16) -> Judged
     let levels = t.levels;
     Judged {
         verdict: loop_verdict(found),
-        levels: levels,
+        levels,
     }
 }
 
@@ -54,9 +55,9 @@ pub fn judge(counts: Counts, periodics: &[u8], triggers: &[u8]) -> Judged
 {
     let rows = row_judge::rows_judged(counts, periodics, triggers);
     match rows {
-        Verdict::Pass => loop_judged(triggers, counts.triggers),
-        Verdict::Refused(r) => Judged {
-            verdict: Verdict::Refused(r),
+        Ok(()) => loop_judged(triggers, counts.triggers),
+        Err(r) => Judged {
+            verdict: Err(r),
             levels: [0; LEVELS],
         },
     }

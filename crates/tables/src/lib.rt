@@ -1,7 +1,7 @@
 // What is lent, to the byte: any byte of a table of any length, 0 past its end; a trigger's bytes by their row; a row copied in where it fits.
 #![tactic(auto)]
 
-ghost use Rattle.std.specs.Prelude.{◌≡◌, ◌+◌, ◌*◌, ◌≤◌, length};
+ghost use Rattle.std.specs.Prelude.{◌≡◌, ◌+◌, ◌*◌, ◌≤◌, length, get_or};
 ghost use Rattle.std.proofs.Math.Seq.{paste};
 ghost use Rattle.tables.specs.Layout.{TRIGGER_BYTES, byte_at};
 
@@ -26,21 +26,25 @@ pub const WAITING_NUMBERS: usize = EVENTS_NUMBERS * (WAITING_ROWS as usize);
 pub const REQUEST_BYTES: usize = 3;
 
 // How much of what is lent is used: the role count, and the rows of each table.
-#[derive(Clone, Copy)]
+#[derive(Clone, Copy, PartialEq, Eq, Debug)]
 pub struct Counts {
     pub roles: u8,
     pub periodics: u16,
     pub triggers: u16,
 }
 
+// The element at i; `past` past the end.
+pub fn at_or<T: Copy>(items: &[T], i: usize, past: T) -> T
+    ensures { result ≡ get_or items.now i past }
+{
+    items.get(i).copied().unwrap_or(past)
+}
+
 // The byte at i; 0 past the end.
 pub fn byte(table: &[u8], i: usize) -> u8
     ensures { result ≡ byte_at table.now i }
 {
-    if i < table.len() {
-        return table[i];
-    }
-    0
+    at_or(table, i, 0)
 }
 
 // Which byte of a trigger's row each field is, or the first of its four (docs/TABLES.md).
@@ -70,9 +74,5 @@ pub fn copy_in(table: &mut [u8], at: usize, row: &[u8])
     requires { at + length row.now ≤ length table.old }
     ensures { table.new ≡ paste table.old at row.now (length row.now) }
 {
-    let mut j: usize = 0;
-    while j < row.len() {
-        table[at + j] = row[j];
-        j += 1;
-    }
+    table[at..at + row.len()].copy_from_slice(row);
 }

@@ -2,9 +2,9 @@
 -- Assumes nothing.
 use Rattle.line_readers.specs.Walks.{Going, goes, refused}
 use Rattle.tape_tests.specs.declared.Heard.{Heard}
-use Rattle.tape.specs.declared.Taken.{Taken}
-use Rattle.tape.specs.declared.Taken.TheVariants.{Goes, Refused}
+use Rattle.std.specs.Prelude.{Err, Ok, Result}
+use Rattle.answers.specs.declared.Refusal.{Refusal}
 
-abbrev pub took : Taken → Going Heard
-took (Goes s) = goes s
-took (Refused r) = refused r
+abbrev pub took : Result Heard Refusal → Going Heard
+took (Ok s) = goes s
+took (Err r) = refused r

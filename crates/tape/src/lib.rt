@@ -7,17 +7,10 @@ ghost use Rattle.tape_tests.specs.Tests.{room_for_request};
 ghost use Rattle.tape.specs.Tape.{many_with, heard_after, tape_step, tape_ends, tape_read};
 ghost use Rattle.tape.specs.Took.{took};
 
-use answers::{Name, Refusal, Verdict};
+use answers::{Name, Refusal};
 use frames::byte_at;
 use tape_frames::{ASK, instant_of};
 use tape_tests::Heard;
-
-// What came of a line, or of all of them.
-#[derive(Clone, Copy)]
-pub enum Taken {
-    Goes(Heard),
-    Refused(Refusal),
-}
 
 // How many requests in a row are of instant t, with one more of it.
 fn one_more(s: Heard, t: u32) -> u8
@@ -55,30 +48,27 @@ fn heard_after(line: &[u8], s: Heard) -> Heard
 }
 
 // One line: its tests, and what it does.
-fn take(line: &[u8], roles: u8, s: Heard) -> Taken
+fn take(line: &[u8], roles: u8, s: Heard) -> Result<Heard, Refusal>
     requires { s.line < 131072 }
     ensures { took result ≡ tape_step roles s line.now }
 {
-    let v = tape_tests::tape_judged(line, roles, s, s.line + 1);
-    match v {
-        Verdict::Pass => Taken::Goes(heard_after(line, s)),
-        Verdict::Refused(r) => Taken::Refused(r),
-    }
+    tape_tests::tape_judged(line, roles, s, s.line + 1)?;
+    Ok(heard_after(line, s))
 }
 
 // After the last line.
-fn at_end(s: Heard) -> Taken
+fn at_end(s: Heard) -> Result<Heard, Refusal>
     requires { s.line ≤ 131072 }
     ensures { took result ≡ tape_ends s }
 {
     if s.ended {
-        return Taken::Goes(s);
+        return Ok(s);
     }
-    Taken::Refused(answers::refusal_of(Name::Kind, s.line + 1))
+    Err(answers::refusal_of(Name::Kind, s.line + 1))
 }
 
 // Reads a tape that stands after so many lines of a sheet, for so many roles. (For `day_input` alone, which has tested LENGTH.)
-pub fn read_tape(tape: &[u8], roles: u8, before: u32) -> Taken
+pub fn read_tape(tape: &[u8], roles: u8, before: u32) -> Result<Heard, Refusal>
     requires { (length tape.now ≤ 65536) × (before ≤ 65536) }
     ensures { took result ≡ tape_read roles before tape.now }
 {
@@ -90,22 +80,13 @@ pub fn read_tape(tape: &[u8], roles: u8, before: u32) -> Taken
         last: 0,
     };
     let mut at: usize = 0;
-    while at < tape.len() {
-        let e = text::line_end(tape, at);
-        if e == tape.len() {
-            let r = answers::refusal_of(Name::Frame, s.line + 1);
-            return Taken::Refused(line_readers::in_line(r, &tape[at..e], 0));
-        }
-        let w = take(&tape[at..e], roles, s);
-        match w {
-            Taken::Goes(n) => {
-                s = n;
-                at = e + 1;
-            }
-            Taken::Refused(r) => {
-                return Taken::Refused(r);
-            }
-        }
+    while let Some(line) = text::line_at(tape, at) {
+        s = take(line, roles, s)?;
+        at += line.len() + 1;
+    }
+    if at < tape.len() {
+        let r = answers::refusal_of(Name::Frame, s.line + 1);
+        return Err(line_readers::in_line(r, &tape[at..], 0));
     }
     at_end(s)
 }

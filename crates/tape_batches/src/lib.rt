@@ -50,29 +50,17 @@ pub fn take_batch(tape: &[u8], at: usize, t: u32) -> Batch
     let mut asked = [0u8; FLAT_NUMBERS];
     let mut n: usize = 0;
     let mut next = at;
-    while next < tape.len() {
-        let e = text::line_end(tape, next);
-        if e == tape.len() {
-            return Batch {
-                asked: asked,
-                count: n,
-                next: next,
-            };
+    while let Some(line) = text::line_at(tape, next) {
+        if !is_one_more(line, t, n) {
+            break;
         }
-        if !is_one_more(&tape[next..e], t, n) {
-            return Batch {
-                asked: asked,
-                count: n,
-                next: next,
-            };
-        }
-        put(&mut asked, n, &tape[next..e]);
+        put(&mut asked, n, line);
         n += 1;
-        next = e + 1;
+        next += line.len() + 1;
     }
     Batch {
-        asked: asked,
+        asked,
         count: n,
-        next: next,
+        next,
     }
 }

@@ -28,6 +28,7 @@ pub fn asked_in(line: &[u8]) -> Request
 }
 
 // The kinds of a tape's frames: a request, and the end.
+// Kept: a line may begin with any byte, and `take_batch` and `read_tape` promise their answer of each, so that an enum would need a variant for each byte that is no kind.
 pub const ASK: u8 = 0x40;
 
 pub const TAPE_END: u8 = 0xf1;

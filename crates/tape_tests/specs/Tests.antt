@@ -3,7 +3,6 @@
 use Rattle.std.specs.Prelude.{Bool, true, not, cond, ◌&&◌, ◌||◌, List, ℕ, ltb, leb, eqb, length}
 use Rattle.theory.specs.Numbers.{REQUESTS}
 use Rattle.answers.specs.declared.Name.TheVariants.{Request}
-use Rattle.answers.specs.declared.Verdict.{Verdict}
 use Rattle.line_readers.specs.declared.Tests.{Tests}
 use Rattle.line_readers.specs.Order.{in_order}
 use Rattle.line_readers.specs.Column.{located}
@@ -13,6 +12,7 @@ use Rattle.kinds.specs.Kinds.{kind}
 use Rattle.requests.specs.Requests.{fits}
 use Rattle.tape_frames.specs.Frame.{ASK, TAPE_END, instant_of, asked_in}
 use Rattle.tape_tests.specs.declared.Heard.{Heard}
+use Rattle.answers.specs.Answers.{Verdict}
 
 -- the last instant of a day is at most this
 abbrev pub LONGEST_DAY : ℕ

@@ -98,11 +98,11 @@ fn tape_tested(line: &[u8], roles: u8, s: Heard, place: u32) -> Verdict
     let field = in_time(line, t, s);
     let request = ask_fits(line, roles);
     let tests = Tests {
-        framed: framed,
-        checked: checked,
-        kind: kind,
-        room: room,
-        field: field,
+        framed,
+        checked,
+        kind,
+        room,
+        field,
         last: request,
     };
     line_readers::in_order(tests, Name::Request, place)
@@ -112,9 +112,5 @@ fn tape_tested(line: &[u8], roles: u8, s: Heard, place: u32) -> Verdict
 pub fn tape_judged(line: &[u8], roles: u8, s: Heard, place: u32) -> Verdict
     ensures { result ≡ judge_tape place roles s line.now }
 {
-    let v = tape_tested(line, roles, s, place);
-    match v {
-        Verdict::Pass => Verdict::Pass,
-        Verdict::Refused(r) => Verdict::Refused(line_readers::in_line(r, line, INSTANT_BYTE)),
-    }
+    tape_tested(line, roles, s, place).map_err(|r| line_readers::in_line(r, line, INSTANT_BYTE))
 }

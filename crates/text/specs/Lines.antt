@@ -1,6 +1,6 @@
 -- The lines of a text. Each line is ended by byte 0A, which is no part of it.
 -- Assumes nothing.
-use Rattle.std.specs.Prelude.{cond, List, [], ◌∷◌, ℕ, suc, eqb}
+use Rattle.std.specs.Prelude.{cond, List, [], ◌∷◌, ℕ, suc, Option, None, Some, eqb}
 
 -- byte 0A
 abbrev pub LINE_END : ℕ
@@ -23,6 +23,12 @@ onto b (line l ls) = line (b ∷ l) ls
 abbrev pub lines : List ℕ → Lines
 lines [] = none
 lines (b ∷ text) = cond (eqb b LINE_END) (line [] (lines text)) (onto b (lines text))
+
+-- the first of them, where it has its 0A
+abbrev pub first_ended : Lines → Option (List ℕ)
+first_ended none = None
+first_ended (endless l) = None
+first_ended (line l ls) = Some l
 
 -- all of them in order, a last one with no final 0A among them
 abbrev pub all_lines : Lines → List (List ℕ)

@@ -1,57 +1,32 @@
 // The lines of a text: where each ends, at its 0A or with the text; and FRAME, whether a line is one or more pairs of upper-case hexadecimal digits, and its column.
 #![tactic(auto)]
 
-ghost use Rattle.std.specs.Prelude.{◌≡◌, true, ◌+◌, ◌≤◌, length, drop};
+ghost use Rattle.std.specs.Prelude.{◌≡◌, ◌+◌, option_copied, drop};
 ghost use Rattle.text.specs.Framed.{is_digit, framed, all_digits, frame_column};
-ghost use Rattle.text.specs.Lines.{span};
+ghost use Rattle.text.specs.Lines.{lines, first_ended, span};
+
+use memchr::memchr;
 
 // The byte that ends a line.
 pub const LINE_END: u8 = 0x0a;
-
-// None of the eight characters from i on is a 0A. (No character ends the loop: the compiler takes all eight at once.)
-fn no_end(text: &[u8], i: usize) -> bool
-    requires { i + 8 ≤ length text.now }
-    ensures { result ≡ true → span (drop i text.now) ≡ 8 + span (drop (i + 8) text.now) }
-{
-    let mut none = true;
-    let mut k: usize = 0;
-    while k < 8 {
-        none = none & (text[i + k] != LINE_END);
-        k += 1;
-    }
-    none
-}
-
-// Where to look for the end of the line that starts at `at`: past as many eights of characters as have no 0A.
-fn near_end(text: &[u8], at: usize) -> usize
-    ensures { result + span (drop result text.now) ≡ at + span (drop at text.now) }
-{
-    if text.len() < 8 {
-        return at;
-    }
-    let last = text.len() - 8;
-    let mut i: usize = at;
-    while i <= last {
-        if !no_end(text, i) {
-            return i;
-        }
-        i += 8;
-    }
-    i
-}
 
 // Where the line that starts at `at` ends: its 0A, or the end of the text.
 pub fn line_end(text: &[u8], at: usize) -> usize
     ensures { result ≡ at + span (drop at text.now) }
 {
-    let mut i: usize = near_end(text, at);
-    while i < text.len() {
-        if text[i] == LINE_END {
-            return i;
-        }
-        i += 1;
+    match text.get(at..) {
+        Some(rest) => at + memchr(LINE_END, rest).unwrap_or(rest.len()),
+        None => at,
     }
-    i
+}
+
+// The line that starts at `at`, without its 0A; none where the text ends before a 0A.
+pub fn line_at(text: &[u8], at: usize) -> Option<&[u8]>
+    ensures { option_copied result ≡ first_ended (lines (drop at text.now)) }
+{
+    let rest = text.get(at..)?;
+    let size = memchr(LINE_END, rest)?;
+    Some(&rest[..size])
 }
 
 // An upper-case hexadecimal digit.
@@ -68,10 +43,8 @@ fn all_digits(line: &[u8]) -> bool
     ensures { result ≡ all_digits line.now }
 {
     let mut all = true;
-    let mut i: usize = 0;
-    while i < line.len() {
-        all = all & is_digit(line[i]);
-        i += 1;
+    for c in line {
+        all = all & is_digit(*c);
     }
     all
 }
@@ -94,12 +67,10 @@ pub fn is_framed(line: &[u8]) -> bool
 pub fn frame_column(line: &[u8]) -> usize
     ensures { result ≡ frame_column line.now }
 {
-    let mut i: usize = 0;
-    while i < line.len() {
-        if !is_digit(line[i]) {
+    for (i, c) in line.iter().enumerate() {
+        if !is_digit(*c) {
             return i + 1;
         }
-        i += 1;
     }
-    i + 1
+    line.len() + 1
 }

@@ -1,6 +1,7 @@
 -- What is proved of the definitions, and what callers use in place of their text.
 pub mod Tests
 pub mod Below
+pub mod Ranges
 pub mod First
 pub mod All
 pub mod FirstBad

@@ -7,7 +7,6 @@ ghost use Rattle.trigger_frames.specs.Row.{placed, event_place, condition_place,
 
 use frames::byte_at;
 use tables::TRIGGER_BYTES;
-use widths::index;
 
 // The byte b at place j of n, and zero past n.
 fn placed_at(j: usize, n: usize, b: u8) -> u8
@@ -24,7 +23,7 @@ fn event_place(line: &[u8], j: usize) -> u8
     requires { j < 4 }
     ensures { result ≡ event_place (bytes_of line.now) j }
 {
-    placed_at(j, index(byte_at(line, 1)), byte_at(line, 3 + j))
+    placed_at(j, usize::from(byte_at(line, 1)), byte_at(line, 3 + j))
 }
 
 // Place j for conditions.
@@ -34,8 +33,8 @@ fn condition_place(line: &[u8], j: usize) -> u8
 {
     placed_at(
         j,
-        index(byte_at(line, 2)),
-        byte_at(line, 3 + index(byte_at(line, 1)) + j),
+        usize::from(byte_at(line, 2)),
+        byte_at(line, 3 + usize::from(byte_at(line, 1)) + j),
     )
 }
 
@@ -46,7 +45,7 @@ fn last_place(line: &[u8], j: usize) -> u8
 {
     byte_at(
         line,
-        3 + index(byte_at(line, 1)) + index(byte_at(line, 2)) + j,
+        3 + usize::from(byte_at(line, 1)) + usize::from(byte_at(line, 2)) + j,
     )
 }
 

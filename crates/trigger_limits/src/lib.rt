@@ -15,21 +15,22 @@ use theory::{BODY_CONDITIONS, BODY_EVENTS, LONGEST_DELAY, PRIORITIES};
 use widths::{index, row_index};
 
 // Of the n bytes from `at` on, the first that is no event or condition of the roles; n where there is none.
+// Kept: a number where an Option could be, for the definition `first_below` has n where there is none, and the callers count on from it.
+#[tactic(auto, unfolding(theory::specs::Below::first_below))]
 fn first_foreign(table: &[u8], at: usize, n: u8, roles: u8) -> u8
     requires { at < 1048600 }
     ensures { result ≡ first_below n (λ j. not (of_roles roles (byte_at table.now (at + j)))) }
 {
-    let mut j: u8 = 0;
-    while j < n {
+    for j in 0..n {
         if !of_roles(roles, byte(table, at + index(j))) {
             return j;
         }
-        j += 1;
     }
     n
 }
 
 // Of the head of row i, its priority and its delay, the first that is outside its limit, from 0; 3 where none is.
+#[tactic(auto, unfolding(tables::specs::Layout::trigger_from))]
 fn first_bad_head(table: &[u8], i: u16, roles: u8) -> u8
     ensures { (result ≡ first_failing
         (event_tests roles
@@ -51,6 +52,8 @@ fn first_bad_head(table: &[u8], i: u16, roles: u8) -> u8
 }
 
 // The number of the first field of row i that is outside its limit, in frame order, from 0; where none is, how many fields it has.
+// Kept: a number where an Option could be, for the public contract says the definition `first_failing`, which has their count where none fails.
+#[tactic(auto, unfolding(tables::specs::Layout::trigger_from))]
 pub fn first_bad_trigger(table: &[u8], i: u16, roles: u8) -> u8
     ensures { result ≡ first_failing (trigger_tests roles (trigger_at table.now i)) }
 {

@@ -9,6 +9,7 @@ use tables::{DELAY, FIRST_CONDITION, FIRST_EVENT, TRIGGER_BYTES, byte, trigger_b
 use widths::{index, row_index};
 
 // Body event j of trigger i.
+#[tactic(auto, unfolding(tables::specs::Layout::trigger_from))]
 pub fn event(triggers: &[u8], i: u16, j: u8) -> u8
     ensures { result ≡ (trigger_at triggers.now i).event j }
 {
@@ -19,6 +20,7 @@ pub fn event(triggers: &[u8], i: u16, j: u8) -> u8
 }
 
 // Condition j of trigger i.
+#[tactic(auto, unfolding(tables::specs::Layout::trigger_from))]
 pub fn condition(triggers: &[u8], i: u16, j: u8) -> u8
     ensures { result ≡ (trigger_at triggers.now i).condition j }
 {
@@ -29,6 +31,7 @@ pub fn condition(triggers: &[u8], i: u16, j: u8) -> u8
 }
 
 // Trigger i counts: its delay is 0.
+#[tactic(auto, unfolding(tables::specs::Layout::trigger_from, tables::specs::Layout::sheet_of, theory::specs::Graph::counts))]
 pub fn counts_at(triggers: &[u8], i: u16) -> bool
     ensures { (n : ℕ) → result ≡ counts (triggers_of n triggers.now) i }
 {

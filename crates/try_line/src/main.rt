@@ -3,14 +3,14 @@
 #![tactic(auto)]
 
 use answers::{Name, Refusal};
-use cases::{Run, put, value};
+use cases::{Stop, put, value};
 use faulty_line::Part;
-use tables::byte;
 
 // The most bytes of a sheet and of a tape in a case.
 const MOST: usize = 0x18000;
 
 // The refusal of a number; LENGTH, which has no line either, for a number that is of none.
+// Kept: no number fails here, so a TryFrom would have an error only for its one caller to make LENGTH of.
 fn named(number: usize) -> Name {
     match number {
         2 => Name::Frame,
@@ -26,26 +26,9 @@ fn named(number: usize) -> Name {
     }
 }
 
-// Two texts are the same.
-fn same(a: &[u8], b: &[u8]) -> bool {
-    let mut i: usize = 0;
-    while i < a.len() {
-        if byte(a, i) != byte(b, i) {
-            return false;
-        }
-        i += 1;
-    }
-    a.len() == b.len()
-}
-
 // A line is the text from `from` up to `to`.
 fn is_part(line: &[u8], text: &[u8], from: usize, to: usize) -> bool {
-    if from <= to {
-        if to <= text.len() {
-            return same(line, &text[from..to]);
-        }
-    }
-    false
+    text.get(from..to) == Some(line)
 }
 
 // The line that is returned is the part that is told.
@@ -58,7 +41,7 @@ fn agrees<'a>(sheet: &'a [u8], tape: &'a [u8], r: Refusal, p: Part) -> bool {
 }
 
 // Prints the result: which text, from where, up to where. A part that is not the line returned is told as of text 2, which there is not.
-fn try_refusal<'a>(sheet: &'a [u8], tape: &'a [u8], r: Refusal) -> Run {
+fn try_refusal<'a>(sheet: &'a [u8], tape: &'a [u8], r: Refusal) -> Result<(), Stop> {
     let mut out = [0u8; 64];
     let p = faulty_line::faulty_part(sheet, tape, r);
     let mut which = p.tape as usize;
@@ -71,48 +54,25 @@ fn try_refusal<'a>(sheet: &'a [u8], tape: &'a [u8], r: Refusal) -> Run {
     cases::print(&mut out, n)
 }
 
-// The two texts, taken into the room that is lent for them.
+// The two texts.
 //
 //     SSSSSSSS TTTTTTTT AA LLLLLLLL
 //     0        9        18 21
-fn with_head(head: &[u8], room: &mut [u8]) -> Run {
+fn with_head(head: &[u8]) -> Result<(), Stop> {
     let s = value(head, 0, 8);
     let t = value(head, 9, 17);
     let name = named(value(head, 18, 20));
     let place = (value(head, 21, 29) % 0x100000000) as u32;
-    if s > MOST {
-        return Run::BadCase;
-    }
-    if t > MOST {
-        return Run::BadCase;
+    if (s > MOST) | (t > MOST) {
+        return Err(Stop::BadCase);
     }
     let end = s + t;
-    if end <= room.len() {
-        if cases::take_text(room, end) {
-            return try_refusal(&room[0..s], &room[s..end], answers::refusal_of(name, place));
-        }
-    }
-    Run::BadCase
+    let mut room = [0u8; 2 * MOST + 1];
+    cases::take_text(&mut room, end)?;
+    try_refusal(&room[0..s], &room[s..end], answers::refusal_of(name, place))
 }
 
-// One case from the input.
-fn one_case() -> Run {
-    let mut head = [0u8; 30];
-    let mut room = [0u8; 196609];
-    let run = cases::take_line(&mut head, b"00000000 00000000 00 00000000\n");
-    if let Run::GoesOn = run {
-        return with_head(&head, &mut room);
-    }
-    run
-}
-
-// The cases, until the input ends or one is not in the form; at most a thousand million.
+// The cases, until the input ends or one is not in the form.
 fn main() {
-    let mut left: usize = 1000000000;
-    while left > 0 {
-        if !cases::goes_on(one_case()) {
-            return;
-        }
-        left -= 1;
-    }
+    cases::run(b"00000000 00000000 00 00000000\n", with_head);
 }

@@ -2,22 +2,15 @@
 // with the line `bad case`.
 #![tactic(auto)]
 
-use cases::{Run, four, put, put_row, value};
-use reader::Reading;
+use answers::Refusal;
+use cases::{Stop, four, put, put_row, value};
 use tables::{Counts, byte};
 
 // ---- the mark
 
 // The bytes at `from` and on, before `to`, are all b.
 fn all_are(table: &[u8], from: usize, to: usize, b: u8) -> bool {
-    let mut i = from;
-    while i < to {
-        if byte(table, i) != b {
-            return false;
-        }
-        i += 1;
-    }
-    true
+    (from..to).all(|i| byte(table, i) == b)
 }
 
 // The event and condition places of trigger i past its counts are zero.
@@ -30,14 +23,7 @@ fn is_bare(triggers: &[u8], i: u16) -> bool {
 
 // That holds of each of the first n triggers.
 fn are_bare(triggers: &[u8], n: u16) -> bool {
-    let mut i: u16 = 0;
-    while i < n {
-        if !is_bare(triggers, i) {
-            return false;
-        }
-        i += 1;
-    }
-    true
+    (0..n).all(|i| is_bare(triggers, i))
 }
 
 // The mark after OK: what is past the used rows is zero, and each unused place in them.
@@ -54,20 +40,20 @@ fn is_as_given(periodics: &[u8], triggers: &[u8], fill: u8) -> bool {
 }
 
 // The mark.
-fn mark_of(reading: Reading, periodics: &[u8], triggers: &[u8], fill: u8) -> bool {
+fn mark_of(reading: Result<Counts, Refusal>, periodics: &[u8], triggers: &[u8], fill: u8) -> bool {
     match reading {
-        Reading::Good(counts) => rest_is_zero(counts, periodics, triggers),
-        Reading::Refused(refusal) => is_as_given(periodics, triggers, fill),
+        Ok(counts) => rest_is_zero(counts, periodics, triggers),
+        Err(refusal) => is_as_given(periodics, triggers, fill),
     }
 }
 
 // ---- the result
 
 // The counts, which are zero after a refusal.
-fn counts_of(reading: Reading) -> Counts {
+fn counts_of(reading: Result<Counts, Refusal>) -> Counts {
     match reading {
-        Reading::Good(counts) => counts,
-        Reading::Refused(refusal) => Counts {
+        Ok(counts) => counts,
+        Err(refusal) => Counts {
             roles: 0,
             periodics: 0,
             triggers: 0,
@@ -83,18 +69,15 @@ fn put_counts(out: &mut [u8], at: usize, counts: Counts) -> usize {
 }
 
 // The first rows of a table, as many as it has.
-fn put_rows(out: &mut [u8], at: usize, table: &[u8], width: u8, count: u16) -> usize {
+fn put_rows<const WIDTH: usize>(
+    out: &mut [u8],
+    at: usize,
+    rows: &[[u8; WIDTH]],
+    count: u16,
+) -> usize {
     let mut n = at;
-    let mut from: usize = 0;
-    let mut k: u16 = 0;
-    while k < count {
-        let end = from + width as usize;
-        if end > table.len() {
-            return n;
-        }
-        n = put_row(out, n, &table[from..end]);
-        from = end;
-        k += 1;
+    for row in rows.iter().take(count as usize) {
+        n = put_row(out, n, row);
     }
     n
 }
@@ -102,7 +85,7 @@ fn put_rows(out: &mut [u8], at: usize, table: &[u8], width: u8, count: u16) -> u
 // The line of a reading; where it ends.
 fn put_result(
     out: &mut [u8],
-    reading: Reading,
+    reading: Result<Counts, Refusal>,
     periodics: &[u8],
     triggers: &[u8],
     mark: bool,
@@ -112,13 +95,18 @@ fn put_result(
     let n = cases::put_answer(out, answer);
     let a = put(out, n, answer.column, 8);
     let b = put_counts(out, a, counts);
-    let c = put_rows(out, b, periodics, 16, counts.periodics);
-    let d = put_rows(out, c, triggers, 13, counts.triggers);
+    let c = put_rows(out, b, periodics.as_chunks::<16>().0, counts.periodics);
+    let d = put_rows(out, c, triggers.as_chunks::<13>().0, counts.triggers);
     put(out, d, mark as usize, 1)
 }
 
 // Prints the result of a reading.
-fn print_result(reading: Reading, periodics: &[u8], triggers: &[u8], fill: u8) -> Run {
+fn print_result(
+    reading: Result<Counts, Refusal>,
+    periodics: &[u8],
+    triggers: &[u8],
+    fill: u8,
+) -> Result<(), Stop> {
     let mut out = [0u8; 12288];
     let mark = mark_of(reading, periodics, triggers, fill);
     let n = put_result(&mut out, reading, periodics, triggers, mark);
@@ -133,55 +121,38 @@ fn print_result(reading: Reading, periodics: &[u8], triggers: &[u8], fill: u8) -
 //     0        9    14   19
 
 // Reads a sheet into tables that hold the fill, and prints the result.
-fn try_sheet(sheet: &[u8], periodics: &mut [u8], triggers: &mut [u8], fill: u8) -> Run {
+fn try_sheet(
+    sheet: &[u8],
+    periodics: &mut [u8],
+    triggers: &mut [u8],
+    fill: u8,
+) -> Result<(), Stop> {
     let reading = reader::read_sheet(sheet, periodics, triggers);
     print_result(reading, periodics, triggers, fill)
 }
 
 // Both tables, which hold the fill.
-fn with_sheet(head: &[u8], sheet: &[u8]) -> Run {
+fn with_sheet(head: &[u8], sheet: &[u8]) -> Result<(), Stop> {
     let p = 16 * four(head, 9) as usize;
     let t = 13 * four(head, 14) as usize;
     let fill = (value(head, 19, 21) % 256) as u8;
-    if p <= 4096 {
-        if t <= 6656 {
-            let mut periodics = [fill; 4096];
-            let mut triggers = [fill; 6656];
-            return try_sheet(sheet, &mut periodics[0..p], &mut triggers[0..t], fill);
-        }
+    if (p > 4096) | (t > 6656) {
+        return Err(Stop::BadCase);
     }
-    Run::BadCase
+    let mut periodics = [fill; 4096];
+    let mut triggers = [fill; 6656];
+    try_sheet(sheet, &mut periodics[0..p], &mut triggers[0..t], fill)
 }
 
-// The sheet, taken into the room that is lent for it.
-fn with_head(head: &[u8], room: &mut [u8]) -> Run {
+// The sheet.
+fn with_head(head: &[u8]) -> Result<(), Stop> {
     let n = value(head, 0, 8);
-    if n <= room.len() {
-        if cases::take_text(room, n) {
-            return with_sheet(head, &room[0..n]);
-        }
-    }
-    Run::BadCase
-}
-
-// One case from the input.
-fn one_case() -> Run {
-    let mut head = [0u8; 22];
     let mut room = [0u8; 32769];
-    let run = cases::take_line(&mut head, b"00000000 0000 0000 00\n");
-    if let Run::GoesOn = run {
-        return with_head(&head, &mut room);
-    }
-    run
+    cases::take_text(&mut room, n)?;
+    with_sheet(head, &room[0..n])
 }
 
-// The cases, until the input ends or one is not in the form; at most a thousand million.
+// The cases, until the input ends or one is not in the form.
 fn main() {
-    let mut left: usize = 1000000000;
-    while left > 0 {
-        if !cases::goes_on(one_case()) {
-            return;
-        }
-        left -= 1;
-    }
+    cases::run(b"00000000 0000 0000 00\n", with_head);
 }

@@ -3,21 +3,14 @@
 #![tactic(auto)]
 
 use answers::Verdict;
-use cases::{Run, four, put, take_rows, value};
+use cases::{Stop, four, put, take_rows, value};
 use tables::Counts;
-use widths::one;
 
 // ---- the result
 
 // How many numbers of a buffer are not zero.
 fn nonzero(buffer: &[u16]) -> usize {
-    let mut n: usize = 0;
-    let mut i: usize = 0;
-    while i < buffer.len() {
-        n += one(buffer[i] != 0) as usize;
-        i += 1;
-    }
-    n
+    buffer.iter().filter(|mask| **mask != 0).count()
 }
 
 // Number i of a buffer as an entry: its row, if an entry has 8 digits, its event and the set of priorities.
@@ -40,10 +33,8 @@ fn put_entry(out: &mut [u8], at: usize, i: usize, mask: u16, digits: u8) -> usiz
 // A buffer: how many numbers are not zero, and these.
 fn put_buffer(out: &mut [u8], at: usize, buffer: &[u16], digits: u8) -> usize {
     let mut n = put(out, at, nonzero(buffer), 4);
-    let mut i: usize = 0;
-    while i < buffer.len() {
-        n = put_entry(out, n, i, buffer[i], digits);
-        i += 1;
+    for (i, &mask) in buffer.iter().enumerate() {
+        n = put_entry(out, n, i, mask, digits);
     }
     n
 }
@@ -71,7 +62,7 @@ fn print_result(
     enabled: u64,
     waiting: &[u16],
     events: &[u16],
-) -> Run {
+) -> Result<(), Stop> {
     let mut out = [0u8; 75776];
     let n = put_result(&mut out, verdict, instant, enabled, waiting, events);
     cases::print(&mut out, n)
@@ -97,7 +88,7 @@ fn try_one(
     asked: [u8; 96],
     waiting: &mut [u16],
     events: &mut [u16],
-) -> Run {
+) -> Result<(), Stop> {
     let mut instant = (value(head, 47, 55) % 4294967296) as u32;
     let mut enabled = value(head, 56, 72) as u64;
     let verdict = step::step(
@@ -121,122 +112,94 @@ fn with_events(
     triggers: &[u8],
     waiting: &mut [u16],
     events: &mut [u16],
-) -> Run {
+) -> Result<(), Stop> {
     let n = four(head, 93);
-    if n <= 1024 {
-        let mut asked = [0u8; 96];
-        if take_rows(&mut asked, n, 6) {
-            return try_one(head, periodics, triggers, asked, waiting, events);
-        }
+    if n > 1024 {
+        return Err(Stop::BadCase);
     }
-    Run::BadCase
+    let mut asked = [0u8; 96];
+    take_rows(&mut asked, n, 6)?;
+    try_one(head, periodics, triggers, asked, waiting, events)
 }
 
 // The events buffer, which holds the fill.
-fn with_waiting(head: &[u8], periodics: &[u8], triggers: &[u8], waiting: &mut [u16]) -> Run {
+fn with_waiting(
+    head: &[u8],
+    periodics: &[u8],
+    triggers: &[u8],
+    waiting: &mut [u16],
+) -> Result<(), Stop> {
     let e = four(head, 15) as usize;
     let fill = four(head, 73);
-    if e <= 256 {
-        let mut events = [fill; 256];
-        return with_events(head, periodics, triggers, waiting, &mut events[0..e]);
+    let mut events = [fill; 256];
+    if e > events.len() {
+        return Err(Stop::BadCase);
     }
-    Run::BadCase
+    with_events(head, periodics, triggers, waiting, &mut events[0..e])
 }
 
-// Takes a waiting entry into the first numbers of a buffer: the row, the event and the set of priorities. Where no entry is taken, the
-// row is past every buffer.
-fn take_entry(waiting: &mut [u16], numbers: usize) -> bool {
-    let x = cases::take_number(8);
+// Takes a waiting entry into a buffer: the row, the event and the set of priorities.
+fn take_entry(waiting: &mut [u16]) -> Result<(), Stop> {
+    let x = cases::take_number(8)?;
     let event = x / 65536 % 256;
     let at = 128 * (x / 16777216) + event;
-    if (event < 128) & (at < numbers) {
-        if at < waiting.len() {
-            waiting[at] = (x % 65536) as u16;
-            return true;
-        }
+    if (event >= 128) | (at >= waiting.len()) {
+        return Err(Stop::BadCase);
     }
-    false
+    waiting[at] = (x % 65536) as u16;
+    Ok(())
 }
 
 // Takes a list of waiting entries.
-fn take_entries(waiting: &mut [u16], numbers: usize, count: u16) -> bool {
-    let mut k: u16 = 0;
-    while k < count {
-        if !take_entry(waiting, numbers) {
-            return false;
-        }
-        k += 1;
+fn take_entries(waiting: &mut [u16], count: u16) -> Result<(), Stop> {
+    for _ in 0..count {
+        take_entry(waiting)?;
     }
-    true
+    Ok(())
 }
 
 // The waiting buffer and its entries.
-fn with_triggers(head: &[u8], periodics: &[u8], triggers: &[u8]) -> Run {
+fn with_triggers(head: &[u8], periodics: &[u8], triggers: &[u8]) -> Result<(), Stop> {
     let w = four(head, 10) as usize;
     let given = four(head, 88);
-    if w <= 8192 {
-        if given <= 8192 {
-            let mut waiting = [0u16; 8192];
-            if take_entries(&mut waiting, w, given) {
-                return with_waiting(head, periodics, triggers, &mut waiting[0..w]);
-            }
-        }
+    let mut waiting = [0u16; 8192];
+    if (w > waiting.len()) | (given > 8192) {
+        return Err(Stop::BadCase);
     }
-    Run::BadCase
+    take_entries(&mut waiting[0..w], given)?;
+    with_waiting(head, periodics, triggers, &mut waiting[0..w])
 }
 
 // The trigger table and its rows.
-fn with_periodics(head: &[u8], periodics: &[u8]) -> Run {
+fn with_periodics(head: &[u8], periodics: &[u8]) -> Result<(), Stop> {
     let rows = four(head, 5);
     let given = four(head, 83);
     let t = 13 * rows as usize;
-    if t <= 6656 {
-        if given <= rows {
-            let mut triggers = [0u8; 6656];
-            if take_rows(&mut triggers, given, 26) {
-                return with_triggers(head, periodics, &triggers[0..t]);
-            }
-        }
+    let mut triggers = [0u8; 6656];
+    if (t > triggers.len()) | (given > rows) {
+        return Err(Stop::BadCase);
     }
-    Run::BadCase
+    take_rows(&mut triggers, given, 26)?;
+    with_triggers(head, periodics, &triggers[0..t])
 }
 
 // The periodic table and its rows.
-fn with_head(head: &[u8]) -> Run {
+fn with_head(head: &[u8]) -> Result<(), Stop> {
     let rows = four(head, 0);
     let given = four(head, 78);
     let p = 16 * rows as usize;
-    if p <= 4096 {
-        if given <= rows {
-            let mut periodics = [0u8; 4096];
-            if take_rows(&mut periodics, given, 32) {
-                return with_periodics(head, &periodics[0..p]);
-            }
-        }
+    let mut periodics = [0u8; 4096];
+    if (p > periodics.len()) | (given > rows) {
+        return Err(Stop::BadCase);
     }
-    Run::BadCase
+    take_rows(&mut periodics, given, 32)?;
+    with_periodics(head, &periodics[0..p])
 }
 
-// One case from the input.
-fn one_case() -> Run {
-    let mut head = [0u8; 98];
-    let run = cases::take_line(
-        &mut head,
-        b"0000 0000 0000 0000 00000000 00000000 00000000 00000000 0000000000000000 0000 0000 0000 0000 0000\n",
-    );
-    if let Run::GoesOn = run {
-        return with_head(&head);
-    }
-    run
-}
-
-// The cases, until the input ends or one is not in the form; at most a thousand million.
+// The cases, until the input ends or one is not in the form.
 fn main() {
-    let mut left: usize = 1000000000;
-    while left > 0 {
-        if !cases::goes_on(one_case()) {
-            return;
-        }
-        left -= 1;
-    }
+    cases::run(
+        b"0000 0000 0000 0000 00000000 00000000 00000000 00000000 0000000000000000 0000 0000 0000 0000 0000\n",
+        with_head,
+    );
 }

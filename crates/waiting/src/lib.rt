@@ -10,6 +10,7 @@ use theory::{EVENTS, WAITING_ROWS};
 use widths::{index, long, wide};
 
 // The buffer's number `at` becomes v; past the end nothing is written.
+// Kept: the library's `get_mut` says nothing of what the slice ends as.
 fn store(buffer: &mut [u16], at: usize, v: u16)
     ensures { buffer.new ≡ set buffer.old at v }
 {
@@ -27,6 +28,7 @@ pub fn place(t: u32, d: u8, e: u8) -> usize
 }
 
 // The row of the instant t is copied over the events buffer.
+// Kept: `copy_from_slice` asks for a row that is there; what `copied` says holds of buffers of any length.
 pub fn copy_row(events: &mut [u16], waiting: &[u16], t: u32)
     ensures { events.new ≡ copied events.old waiting.now t }
 {
@@ -37,6 +39,7 @@ pub fn copy_row(events: &mut [u16], waiting: &[u16], t: u32)
 }
 
 // The row of the instant t is cleared.
+// Kept: `fill` asks for a row that is there; what `cleared` says holds of a buffer of any length.
 pub fn clear_row(waiting: &mut [u16], t: u32)
     ensures { waiting.new ≡ cleared waiting.old t }
 {

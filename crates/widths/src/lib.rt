@@ -8,40 +8,40 @@ ghost use Rattle.theory.specs.Below.{one};
 pub fn wide(x: u8) -> u32
     ensures { result ≡ x }
 {
-    x as u32
+    u32::from(x)
 }
 
 // Two bytes as a number, high byte first.
 pub fn pair(high: u8, low: u8) -> u32
     ensures { (result ≡ 256 * high + low) × (result < 65536) }
 {
-    256 * wide(high) + wide(low)
+    u32::from(u16::from_be_bytes([high, low]))
 }
 
 // A byte as an index.
 pub fn index(x: u8) -> usize
     ensures { result ≡ x }
 {
-    x as usize
+    usize::from(x)
 }
 
 // A row's number as an index.
 pub fn row_index(row: u16) -> usize
     ensures { result ≡ row }
 {
-    row as usize
+    usize::from(row)
 }
 
 // A number of 32 bits as one of 64.
 pub fn long(x: u32) -> u64
     ensures { result ≡ x }
 {
-    x as u64
+    u64::from(x)
 }
 
 // 1 for a test that passes, else 0.
 pub fn one(t: bool) -> u8
     ensures { (result ≡ one t) × (result < 2) }
 {
-    if t { 1 } else { 0 }
+    u8::from(t)
 }

@@ -1,4 +1,5 @@
 -- What is proved of writing.
+pub mod Frames
 pub mod Puts
 pub mod Room
 pub mod Rows

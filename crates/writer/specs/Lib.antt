@@ -2,3 +2,4 @@
 pub mod RowLines
 pub mod Outcome
 pub mod Made
+pub mod Long

@@ -1,7 +1,7 @@
 -- How the writer goes: the frames of which it makes its lines, and what it puts into the buffer. Its private functions speak of these; what is promised is `Writes` (Outcome), and that these meet it is
 -- proved (Laws/Meets).
 -- Assumes nothing.
-use Rattle.std.specs.Prelude.{◌≡◌, cond, List, [], ◌∷◌, ◌++◌, ℕ, zero, suc, ◌+◌, ◌-◌, ◌*◌, ◌/◌, ◌%◌, ◌≤◌, ◌<◌, ltb, length, take}
+use Rattle.std.specs.Prelude.{◌≡◌, cond, List, [], ◌∷◌, ◌++◌, ℕ, zero, suc, ◌+◌, ◌-◌, ◌*◌, ◌/◌, ◌%◌, ◌≤◌, ◌<◌, ltb, length, take, ⊤}
 use Rattle.std.proofs.Math.Seq.{paste}
 use Rattle.theory.specs.Numbers.{BODY_EVENTS, BODY_CONDITIONS}
 use Rattle.tables.specs.Layout.{PERIODIC_BYTES, TRIGGER_BYTES, byte_at}
@@ -70,6 +70,14 @@ pub record Puts (d : List ℕ) (at : ℕ) (text d' : List ℕ) (to : ℕ) : Type
   pub buffer : d' ≡ paste d at text (length text)
   pub place : to ≡ at + length text
 
+-- any periodic row can be written,
+abbrev pub AnyRow : List ℕ → ℕ → Type 0
+AnyRow table i = ⊤
+
+-- and a trigger whose body is within its limits
+abbrev pub FewInBody : List ℕ → ℕ → Type 0
+FewInBody table i = (byte_at table (TRIGGER_BYTES * i) ≤ BODY_EVENTS) × (byte_at table (TRIGGER_BYTES * i + 1) ≤ BODY_CONDITIONS)
+
 -- the bodies of the first n triggers are within their limits
 abbrev pub FewInBodies : List ℕ → ℕ → Type 0
-FewInBodies table n = (i : ℕ) → i < n → (byte_at table (TRIGGER_BYTES * i) ≤ BODY_EVENTS) × (byte_at table (TRIGGER_BYTES * i + 1) ≤ BODY_CONDITIONS)
+FewInBodies table n = (i : ℕ) → i < n → FewInBody table i

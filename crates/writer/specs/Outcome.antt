@@ -1,17 +1,14 @@
 -- What the writer gives: document 02, [1]. Lent tables become a sheet again, header, periodic rows, triggers and end frame in table order; refusals are as in a step, without LAST and REQUEST.
 -- Assumes nothing.
-use Rattle.std.specs.Prelude.{◌≡◌, Bool, cond, ◌&&◌, List, [], ◌∷◌, ◌++◌, ℕ, ◌<◌, eqb, length, get_or, drop}
+use Rattle.std.specs.Prelude.{◌≡◌, Bool, cond, ◌&&◌, List, [], ◌∷◌, ◌++◌, ℕ, ◌<◌, eqb, length, get_or, drop, Err, Ok, Result}
 use Rattle.theory.specs.Numbers.{SHEET_BYTES}
 use Rattle.answers.specs.declared.Name.TheVariants.{Length}
 use Rattle.answers.specs.declared.Refusal.{Refusal}
-use Rattle.answers.specs.declared.Verdict.{Verdict}
-use Rattle.answers.specs.declared.Verdict.TheVariants.{Pass, Refused}
-use Rattle.answers.specs.Answers.{refuse}
+use Rattle.answers.specs.Answers.{refuse, verdict_of, Verdict}
 use Rattle.tables.specs.Layout.{PERIODIC_TABLE, TRIGGER_TABLE}
 use Rattle.tables.specs.Lent.{Rules, sheet_in}
 use Rattle.table_judge.specs.Judge.{judge_tables}
 use Rattle.line_by_line.specs.Lines.{joined}
-use Rattle.writer.specs.declared.Sent.{Sent}
 use Rattle.writer.specs.RowLines.{HeaderLine, PeriodicLine, TriggerLine, EndLine}
 
 -- ---- what is written
@@ -40,20 +37,16 @@ write_lengths_fit p t out = eqb p PERIODIC_TABLE && (eqb t TRIGGER_TABLE && eqb 
 unfoldable pub judge_writing : Rules → ℕ → Verdict
 judge_writing R out = cond (write_lengths_fit (length R.tables.periodics) (length R.tables.triggers) out) (judge_tables (sheet_in R)) (refuse Length 0)
 
--- a refusal, with nothing written
-abbrev pub unwritten : Refusal → Sent
-unwritten x = record { verdict = Refused x; length = 0 }
-
--- On OK the sheet stands at the front of the buffer, and what lies past the written length stays.
-pub record AtFront (R : Rules) (out : List ℕ) (r : Sent) (out' : List ℕ) : Type 0 where
+-- On OK the sheet stands at the front of the buffer, in n bytes, and what lies past them stays.
+pub record AtFront (R : Rules) (out : List ℕ) (n : ℕ) (out' : List ℕ) : Type 0 where
   pub sent : List (List ℕ)
   pub writes : Writes R sent
-  pub size : r.length ≡ length (joined sent)
+  pub size : n ≡ length (joined sent)
   pub buffer : out' ≡ joined sent ++ drop (length (joined sent)) out
 
--- THE OUTCOME of writing lent tables into the lent buffer `out`, which is `out'` then. After a refusal the written length is 0 and the buffer is as it came. (The tables are lent to be read only. There is no
--- answer for want of room: no written sheet has more than 12,692 bytes, `writer_fits`, claims/Demands.)
-pub record WriteOutcome (R : Rules) (out : List ℕ) (r : Sent) (out' : List ℕ) : Type 0 where
-  pub verdict : r.verdict ≡ judge_writing R (length out)
-  pub passed : r.verdict ≡ Pass → AtFront R out r out'
-  pub refused : (x : Refusal) → r.verdict ≡ Refused x → (r ≡ unwritten x) × (out' ≡ out)
+-- THE OUTCOME of writing lent tables into the lent buffer `out`, which is `out'` then: Ok has the number of written bytes, and after a refusal the buffer is as it came. (The tables are lent to be read only.
+-- There is no answer for want of room: no written sheet has more than 12,692 bytes, `writer_fits`, claims/Demands.)
+pub record WriteOutcome (R : Rules) (out : List ℕ) (r : Result ℕ Refusal) (out' : List ℕ) : Type 0 where
+  pub verdict : verdict_of r ≡ judge_writing R (length out)
+  pub passed : (n : ℕ) → r ≡ Ok n → AtFront R out n out'
+  pub refused : (x : Refusal) → r ≡ Err x → out' ≡ out

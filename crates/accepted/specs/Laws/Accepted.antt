@@ -2,7 +2,7 @@
 -- At every line both tables have their length, and from the header on what was read so far is in good order (`Laws.SoFar`): a frame that passed KIND, TOO MANY and FIELD
 -- keeps it so (`Laws.Kept`). After the last line LOOP is tested, and only a sheet without a loop is handed out.
 -- Assumes nothing.
-use Rattle.std.specs.Prelude.{◌≡◌, Bool, true, false, cond, List, length}
+use Rattle.std.specs.Prelude.{◌≡◌, Bool, true, false, cond, List, length, Err, Ok}
 use Rattle.std.proofs.Math.Path.{refl}
 use Rattle.std.proofs.Common.{sym, ap, ◌∙◌, subst, arith}
 use Rattle.std.proofs.Math.Logic.{⊎_elim}
@@ -17,7 +17,6 @@ use Rattle.theory.proofs.Laws.Tests.{test}
 use Rattle.theory.proofs.Laws.Loop.{loop_or}
 use Rattle.theory.proofs.Laws.OneSolution.{good_heads}
 use Rattle.answers.specs.declared.Refusal.{Refusal}
-use Rattle.answers.specs.declared.Verdict.TheVariants.{Pass}
 use Rattle.text.specs.Lines.{lines}
 use Rattle.tables.specs.declared.Counts.{Counts}
 use Rattle.tables.specs.Layout.{PERIODIC_TABLE, TRIGGER_TABLE}
@@ -25,7 +24,6 @@ use Rattle.tables.specs.Lent.{rules, sheet_in}
 use Rattle.line_readers.specs.Walks.{Going, goes, refused}
 use Rattle.sheet_acts.specs.Acts.{Progress}
 use Rattle.reader.specs.Lines.{reads}
-use Rattle.reader.specs.declared.Reading.TheVariants.{Good, Refused}
 use Rattle.table_judge.specs.Judge.{judge_tables}
 use Rattle.table_judge.proofs.Laws.{judge_refuses_not}
 use Rattle.reader.specs.Out.{ReadOutcome, read_outcome, sheet_read, out_by_loop, after_lines}
@@ -33,6 +31,7 @@ use Rattle.reader.proofs.Laws.Exact.{outcome_one}
 use Rattle.reader.specs.Reading.{start, by_lines, sheet_lengths_fit, reading}
 use Rattle.accepted.specs.Laws.SoFar.{SoFar}
 use Rattle.accepted.specs.Laws.Lines.{read_so_far}
+use Rattle.answers.specs.Answers.{pass}
 
 -- before the first line
 pub start_so_far : SoFar start
@@ -49,14 +48,14 @@ no_loop sh g h =
 module _ (p t : List ℕ) (r : Counts) (p' t' : List ℕ) where
   -- what comes back of an accepted sheet
   abbrev accepted : ReadOutcome
-  accepted = read_outcome (Good r) p' t'
+  accepted = read_outcome (Ok r) p' t'
 
   -- a refusal is no acceptance
-  not_bad : {C : Type 0} (x : Refusal) → read_outcome (Refused x) p t ≡ accepted → C
-  not_bad x e = let q : Refused x ≡ Good r = (outcome_one (Refused x) (Good r) p p' t t' e).0 in absurd (let w : ◌≡◌ {A = ℕ} 0 1 = cc in omega arith)
+  not_bad : {C : Type 0} (x : Refusal) → read_outcome (Err x) p t ≡ accepted → C
+  not_bad x e = let q : Err x ≡ Ok r = (outcome_one (Err x) (Ok r) p p' t t' e).0 in absurd (let w : ◌≡◌ {A = ℕ} 0 1 = cc in omega arith)
 
   -- where a test that must hold does not, there is a refusal
-  cond_accepted : (b : Bool) (o : ReadOutcome) (x : Refusal) → cond b o (read_outcome (Refused x) p t) ≡ accepted → o ≡ accepted
+  cond_accepted : (b : Bool) (o : ReadOutcome) (x : Refusal) → cond b o (read_outcome (Err x) p t) ≡ accepted → o ≡ accepted
   cond_accepted true o x e = e
   cond_accepted false o x e = not_bad x e
 
@@ -74,8 +73,8 @@ module _ (p t : List ℕ) (r : Counts) (p' t' : List ℕ) where
       ⊎_elim
       (λ (b : ltb k PAIRS ≡ true). not_bad _ (rw b at e))
       (λ (b : ltb k PAIRS ≡ false).
-      let q = outcome_one (Good s.seen.counts) (Good r) s.tables.periodics p' s.tables.triggers t' (rw b at e) in
-      let g : Good s.seen.counts ≡ Good r = q.0 in
+      let q = outcome_one (Ok s.seen.counts) (Ok r) s.tables.periodics p' s.tables.triggers t' (rw b at e) in
+      let g : Ok s.seen.counts ≡ Ok r = q.0 in
       record { loopless = ltb-false k PAIRS b; is_read = cc; is_periodic = q.1; is_triggers = q.2 })
       (test (ltb k PAIRS))
 
@@ -84,7 +83,7 @@ module _ (p t : List ℕ) (r : Counts) (p' t' : List ℕ) where
   by_reads (goes s) e = (s, refl, by_loop s e)
   by_reads (refused x) e = not_bad x e
 
-module _ (sheet p t : List ℕ) (r : Counts) (p' t' : List ℕ) (e : reading sheet p t ≡ read_outcome (Good r) p' t') where
+module _ (sheet p t : List ℕ) (r : Counts) (p' t' : List ℕ) (e : reading sheet p t ≡ read_outcome (Ok r) p' t') where
   -- the sheet that is handed out
   abbrev sh : Sheet
   sh = sheet_in (rules r p' t')
@@ -112,5 +111,5 @@ module _ (sheet p t : List ℕ) (r : Counts) (p' t' : List ℕ) (e : reading she
   reading_sizes = (sym (ap length went.2.is_periodic) ∙ read.0.periodic_bytes, sym (ap length went.2.is_triggers) ∙ read.0.trigger_bytes)
 
   -- and the judge of lent tables passes them, as a step will ask
-  pub reading_passes : judge_tables sh ≡ Pass
+  pub reading_passes : judge_tables sh ≡ pass
   reading_passes = judge_refuses_not sh reading_good.0 reading_good.1

@@ -1,14 +1,16 @@
 -- `answers::and_then` meets its contract: by the first verdict.
 -- Assumes nothing.
+use mathlib.Core.Path.{◌∙◌}
 use Rattle.answers.specs.Answers.{and_then}
+use Rattle.answers.proofs.Laws.{handed_on}
 use Rattle.answers.proofs.and_then.Goals as goal
 
-pub returns-in-Pass : goal.returns-in-Pass
+pub returns-in_err-first : goal.returns-in_err-first
 unfolding and_then
-returns-in-Pass c =
-    rw c.in-Pass.is
+returns-in_err-first c =
+    rw c.in_err-first.was (handed_on _ _ c.from_residual.ensures.1)
 
-pub returns-in-Refused : goal.returns-in-Refused
+pub returns : goal.returns
 unfolding and_then
-returns-in-Refused c =
-    rw c.in-Refused.is
+returns c =
+    rw c.in_ok-first.was

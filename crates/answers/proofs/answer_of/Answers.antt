@@ -2,10 +2,10 @@
 -- Assumes nothing.
 use Rattle.answers.proofs.answer_of.Goals as goal
 
-pub returns-in-Pass : goal.returns-in-Pass
-returns-in-Pass c =
-    rw c.in-Pass.is
+pub returns-in-Ok : goal.returns-in-Ok
+returns-in-Ok c =
+    rw c.in-Ok.is
 
-pub returns-in-Refused : goal.returns-in-Refused
-returns-in-Refused c =
-    rw (c.in-Refused.is, c.number_of.ensures)
+pub returns-in-Err : goal.returns-in-Err
+returns-in-Err c =
+    rw (c.in-Err.is, c.number_of.ensures)

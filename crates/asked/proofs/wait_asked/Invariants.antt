@@ -1,7 +1,6 @@
 -- `asked::wait_asked` meets its contract. The loop's invariant: the entries of the first k requests have joined.
 -- Assumes nothing.
 use mathlib.Core.Path.{◌≡◌}
-use Prim.Native.Nat.{◌-◌, ◌≤◌}
 use lib.ListN.{length}
 use Rattle.tables.specs.Asked.{request_at}
 use Rattle.masks.specs.Joins.{joins}
@@ -10,8 +9,4 @@ use Rattle.asked.proofs.wait_asked.Given as goal
 
 abbrev pub invariant-loop-k : goal.invariant-loop-k
 invariant-loop-k l =
-    (l.k ≤ l.n) × (length l.waiting ≡ length l.initial.waiting) × (l.waiting ≡ joins l.initial.waiting l.k (λ i. wait_entry l.t (request_at l.asked i)))
-
-abbrev pub decreases-loop-k : goal.decreases-loop-k
-decreases-loop-k l =
-    l.n - l.k
+    (length l.waiting ≡ length l.initial.waiting) × (l.waiting ≡ joins l.initial.waiting l.k (λ i. wait_entry l.t (request_at l.asked i)))

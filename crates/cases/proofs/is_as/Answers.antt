@@ -3,7 +3,6 @@
 use mathlib.Core.Path.{refl}
 use borrow.Author.Tests.{eq-eqb, ne_eqb}
 use Rattle.cases.specs.Digits.{as_form}
-use borrow.Author.Rules.{rules}
 use Rattle.cases.proofs.is_as.Goals as goal
 
 pub returns-then-form-eq48 : goal.returns-then-form-eq48
@@ -14,4 +13,4 @@ returns-then-form-eq48 c =
 pub returns : goal.returns
 unfolding as_form
 returns c =
-    search (eq-eqb, ne_eqb)
+    search ne_eqb

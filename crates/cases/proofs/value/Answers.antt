@@ -1,8 +1,8 @@
--- `cases::value` meets its contract. The loop's invariant: v is the number up to i. The measure is how many digits are left.
+-- `cases::value` meets its contract: one digit more is the definition's next number.
 -- Assumes nothing.
 use mathlib.Core.Path.{◌≡◌, refl, ◌∙◌, ap}
-use Prim.Native.Nat.{◌-◌, ◌≤◌}
-use Rattle.cases.specs.Digits.{with_digit, number_of}
+use Prim.Native.Nat.{◌-◌}
+use Rattle.cases.specs.Digits.{with_digit}
 use Rattle.cases.specs.Laws.{number_next}
 use borrow.Author.Rules.{rules}
 use native.Mathlib.Omega.{arith}
@@ -10,16 +10,15 @@ use Rattle.cases.proofs.value.Goals as goal
 
 pub loop-i-init : goal.loop-i-init
 loop-i-init c =
-    let z : c.args.from - c.args.from ≡ 0 = omega arith in (search rules, search rules, rw z refl)
+    let z : c.args.from - c.args.from ≡ 0 = omega arith in (search rules, rw z refl)
 
 pub loop-i-preserved : goal.loop-i-preserved
 loop-i-preserved c =
     let a = c.args in
-    let e = number_next a.line.now a.from c.loop-i.i c.loop-i.v (search rules) c.loop-i.invariant.2 in
-    (search rules, search rules, c.with_digit-v.ensures ∙ ap (with_digit c.loop-i.v) c.byte.ensures ∙ e)
+    (search rules, c.with_digit-v.ensures ∙ ap (with_digit c.loop-i.v) c.byte.ensures ∙ number_next a.line.now a.from c.loop-i.i c.loop-i.v (search rules) c.loop-i.invariant.1)
 
 pub returns : goal.returns
 returns c =
     let a = c.args in
     let same : c.loop-i.i - a.from ≡ a.to - a.from = omega arith in
-    rw same at c.loop-i.invariant.2
+    rw same at c.loop-i.invariant.1

@@ -2,7 +2,6 @@
 -- Assumes nothing.
 use mathlib.Core.Path.{refl}
 use Rattle.cases.specs.Digits.{with_digit}
-use borrow.Author.Rules.{rules}
 use Rattle.cases.proofs.with_digit.Goals as goal
 
 pub returns : goal.returns

@@ -2,7 +2,7 @@
 -- Assumes nothing.
 use Rattle.std.proofs.Math.Path.{◌≡◌, refl, ap, subst}
 use Rattle.std.proofs.Common.{sym, ◌∙◌, inl, inr, arith, get_or-append-add, leb-true, ltb-true}
-use Rattle.std.specs.Prelude.{◌⊎◌, Bool, true, false, cond, List, [], ◌∷◌, ◌++◌, ℕ, zero, suc, ◌+◌, ◌^◌, ◌≤◌, ◌<◌, ltb, get_or}
+use Rattle.std.specs.Prelude.{◌⊎◌, Bool, true, false, cond, List, [], ◌∷◌, ◌++◌, ℕ, zero, suc, ◌+◌, ◌^◌, ◌≤◌, ◌<◌, ltb, get_or, Err, Ok, Result}
 use Rattle.std.proofs.Math.Logic.{⊎_elim, by_cases}
 use Rattle.std.proofs.Math.Decide.{dec_lt, ℕ_discrete}
 use Rattle.std.proofs.Math.Dec.{leb}
@@ -14,9 +14,7 @@ use Rattle.theory.specs.Sheet.{Sheet}
 use Rattle.answers.specs.declared.Name.{Name}
 use Rattle.answers.specs.declared.Name.TheVariants.{Length, Frame, Check, Kind, Field, TooMany, Count, Loop, Request, Last}
 use Rattle.answers.specs.declared.Refusal.{Refusal}
-use Rattle.answers.specs.declared.Verdict.{Verdict}
-use Rattle.answers.specs.declared.Verdict.TheVariants.{Pass, Refused}
-use Rattle.answers.specs.Answers.{refusal, and_then}
+use Rattle.answers.specs.Answers.{refusal, and_then, Verdict}
 use Rattle.text.specs.Lines.{LINE_END, Lines, none, endless, line, lines, all_lines}
 use Rattle.text.specs.Laws.Lines.{text_of, text_lines}
 use Rattle.frames.specs.Frame.{bytes_of}
@@ -28,8 +26,6 @@ use Rattle.line_readers.specs.Walks as walk
 use Rattle.line_readers.specs.Walks.{Going, goes}
 use Rattle.fields.specs.Fields.{FieldColumn}
 use Rattle.sheet_acts.specs.Acts.{Progress}
-use Rattle.reader.specs.declared.Reading.{Reading}
-use Rattle.reader.specs.declared.Reading.TheVariants.{Good, Refused}
 use Rattle.reader.specs.Lines.{reads}
 use Rattle.reader.specs.Out.{ReadOutcome, read_outcome, sheet_read, out_by_loop}
 use Rattle.reader.specs.Reading.{start, by_lines, sheet_lengths_fit, reading}
@@ -53,6 +49,7 @@ use Rattle.faulty_line.specs.Laws.{no_line, no_place}
 use Rattle.faulty_line.specs.Laws.Shown.{shows_line, shows_past}
 use Rattle.claims.specs.Words.{Shows, EndMissing, NoColumn, no_periodics, no_triggers}
 use Rattle.claims.specs.Laws.ComesBack.{reader_says}
+use Rattle.tables.specs.declared.Counts.{Counts}
 
 -- ---- what it says, of a sheet
 
@@ -64,17 +61,17 @@ module _ (sheet p t : List ℕ) where
       ColumnSays r.name l (FieldColumn (role_count (frames_before (lines_in sheet) r.place)) (bytes_of l)) r.column
 
   -- two outcomes that are refusals
-  answer_same : (r x : Refusal) → read_outcome (Refused r) p t ≡ read_outcome (Refused x) p t → x ≡ r
-  answer_same r x e = let q : ◌≡◌ {A = Reading} (Refused r) (Refused x) = ap (λ (o : ReadOutcome). o.answer) e in cc
+  answer_same : (r x : Refusal) → read_outcome (Err r) p t ≡ read_outcome (Err x) p t → x ≡ r
+  answer_same r x e = let q : ◌≡◌ {A = (Result Counts Refusal)} (Err r) (Err x) = ap (λ (o : ReadOutcome). o.answer) e in cc
 
-  pub reader_column : (r : Refusal) → reading sheet p t ≡ read_outcome (Refused r) p t → Column r
-  reader_column r e = from ((reader_says sheet p t (read_outcome (Refused r) p t)).0 e)
+  pub reader_column : (r : Refusal) → reading sheet p t ≡ read_outcome (Err r) p t → Column r
+  reader_column r e = from ((reader_says sheet p t (read_outcome (Err r) p t)).0 e)
     where
-      from : ComesBack sheet p t (read_outcome (Refused r) p t) → Column r
+      from : ComesBack sheet p t (read_outcome (Err r) p t) → Column r
       from (by_length f q) = subst Column (answer_same r (refusal Length 0) q) refl
       from (at_line name k l x q) = subst Column (answer_same r _ q) (column_says (lines_in sheet) (rest_in sheet) name k x).says
       from (by_loop k l w x q) = subst Column (answer_same r (refusal Loop k) q) refl
-      from (accepted l w x q) = absurd (let z : ◌≡◌ {A = Reading} (Refused r) (Good _) = ap (λ (o : ReadOutcome). o.answer) q in let z' : ◌≡◌ {A = ℕ} 0 1 = cc in omega arith)
+      from (accepted l w x q) = absurd (let z : ◌≡◌ {A = (Result Counts Refusal)} (Err r) (Ok _) = ap (λ (o : ReadOutcome). o.answer) q in let z' : ◌≡◌ {A = ℕ} 0 1 = cc in omega arith)
 
 -- ---- where a refusal is
 
@@ -90,16 +87,16 @@ missing ls n m r e l q = end_missing m l (q ∙ ap (refusal Kind) e)
 
 module _ (r : Refusal) where
   -- two answers that are refusals
-  same_answer : (x : Refusal) → ◌≡◌ {A = Reading} (Refused x) (Refused r) → x ≡ r
+  same_answer : (x : Refusal) → ◌≡◌ {A = (Result Counts Refusal)} (Err x) (Err r) → x ≡ r
   same_answer x e = cc
 
   -- LOOP is at none
   by_pair : (ls : List (List ℕ)) (k : ℕ) (b : Bool) → ltb k PAIRS ≡ b → (s : Progress) (p t : List ℕ)
-      → (cond b (read_outcome (Refused (refusal Loop k)) p t) (record { answer = Good s.seen.counts; tables = s.tables })).answer ≡ Refused r → Where ls r
+      → (cond b (read_outcome (Err (refusal Loop k)) p t) (record { answer = Ok s.seen.counts; tables = s.tables })).answer ≡ Err r → Where ls r
   by_pair ls k true h s p t e = subst (Where ls) (same_answer (refusal Loop k) e) (nowhere refl refl (ltb-true k PAIRS h))
   by_pair ls k false h s p t e = absurd (let z : ◌≡◌ {A = ℕ} 0 1 = cc in omega arith)
 
-  by_lines_lem : (sheet : List ℕ) (x : Going Progress) (p t : List ℕ) → reads (goes start) (lines sheet) ≡ x → (by_lines x p t).answer ≡ Refused r → Where (all_lines (lines sheet)) r
+  by_lines_lem : (sheet : List ℕ) (x : Going Progress) (p t : List ℕ) → reads (goes start) (lines sheet) ≡ x → (by_lines x p t).answer ≡ Err r → Where (all_lines (lines sheet)) r
   unfolding by_lines out_by_loop
   by_lines_lem sheet (walk.refused y) p t w e =
       ⊎_elim
@@ -108,13 +105,13 @@ module _ (r : Refusal) where
       (sheet_faulty sheet r (w ∙ ap walk.refused (same_answer y e)))
   by_lines_lem sheet (goes s) p t w e = by_pair (all_lines (lines sheet)) (loop_place (sheet_read s)) (ltb (loop_place (sheet_read s)) PAIRS) refl s p t e
 
-  sheet_where : (sheet p t : List ℕ) → (reading sheet p t).answer ≡ Refused r → Where (all_lines (lines sheet)) r
+  sheet_where : (sheet p t : List ℕ) → (reading sheet p t).answer ≡ Err r → Where (all_lines (lines sheet)) r
   unfolding reading
   sheet_where sheet p t e =
       ⊎_elim
       (λ (w : sheet_lengths_fit (length sheet) (length p) (length t) ≡ true). by_lines_lem sheet (reads (goes start) (lines sheet)) p t refl (rw w at e))
       (λ (w : sheet_lengths_fit (length sheet) (length p) (length t) ≡ false).
-      let q : ◌≡◌ {A = Reading} (Refused (refusal Length 0)) (Refused r) = rw w at e in
+      let q : ◌≡◌ {A = (Result Counts Refusal)} (Err (refusal Length 0)) (Err r) = rw w at e in
       subst (Where (all_lines (lines sheet))) (same_answer (refusal Length 0) q) (nowhere refl refl (omega arith)))
       (test (sheet_lengths_fit (length sheet) (length p) (length t)))
 
@@ -167,11 +164,11 @@ module _ (r : Refusal) where
         missing (S ++ T) (sheet_lines (lines input) + length T) (length S + length T) r (omega (arith, c)) (omega (arith, length-append S T)) q)
         (tape_faulty roles (sheet_lines (lines input)) (tape_part input) r (w ∙ ap walk.refused (same x e)))
 
-    by_answer : (a : Reading) (tables : Tables) → (sheet_reading input).answer ≡ a → after_sheet input a tables ≡ refused r → Where (S ++ T) r
+    by_answer : (a : Result Counts Refusal) (tables : Tables) → (sheet_reading input).answer ≡ a → after_sheet input a tables ≡ refused r → Where (S ++ T) r
     unfolding after_sheet
-    by_answer (Good counts) tables w e =
+    by_answer (Ok counts) tables w e =
         by_heard_lem (sheet_in (record { counts = counts; tables = tables })) (lines (tape_part input)) counts.roles (tape_read counts.roles (sheet_lines (lines input)) (tape_part input)) refl e
-    by_answer (Refused x) tables w e = where_more S T (sheet_where (sheet_part input) no_periodics no_triggers (w ∙ ap Refused (same x e)))
+    by_answer (Err x) tables w e = where_more S T (sheet_where (sheet_part input) no_periodics no_triggers (w ∙ ap Err (same x e)))
 
     -- THE LAW
     where_is : opening input ≡ refused r → Where (S ++ T) r
@@ -219,7 +216,7 @@ module _ (sheet tape : List ℕ) (r : Refusal) where
   by_column c (nowhere g z p) = absurd (c z)
 
   -- of the reader alone, beside any tape
-  module _ (p t : List ℕ) (refuses : reading sheet p t ≡ read_outcome (Refused r) p t) where
+  module _ (p t : List ℕ) (refuses : reading sheet p t ≡ read_outcome (Err r) p t) where
     reads_where : Where (both_lines sheet tape) r
     reads_where = where_more r (all_lines (lines sheet)) (all_lines (lines tape)) (sheet_where r sheet p t (ap (λ (o : ReadOutcome). o.answer) refuses))
 
@@ -307,8 +304,8 @@ none_of false v w h k = k
 
 none_then : (v w : Verdict) → NoColumn v → NoColumn w → NoColumn (and_then v w)
 unfolding and_then
-none_then Pass w h k = k
-none_then (Refused r) w h k = h
+none_then (Ok tt) w h k = k
+none_then (Err r) w h k = h
 
 tables_none : (sh : Sheet) → NoColumn (judge_tables sh)
 unfolding judge_tables judge_rows judge_loop

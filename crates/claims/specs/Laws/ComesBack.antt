@@ -1,7 +1,7 @@
 -- What the reader gives is what document 01 says comes back: LENGTH, a refusal at its line, LOOP, or the rows of a sheet that reads whole. Line by line it goes as the words say
 -- (`from_first`), and they leave no choice (`refused_one`, `whole_not`); after the last line LOOP is as in `Laws.Reader`.
 -- Assumes nothing.
-use Rattle.std.specs.Prelude.{◌≡◌, ◌↔◌, true, false, List, ℕ, ◌<◌, length}
+use Rattle.std.specs.Prelude.{◌≡◌, ◌↔◌, true, false, List, ℕ, ◌<◌, length, Err, Ok}
 use Rattle.std.proofs.Math.Path.{refl}
 use Rattle.std.proofs.Common.{sym, ap, ◌∙◌, subst, ⊎_elim, arith}
 use Rattle.tables.specs.declared.Counts.{Counts}
@@ -19,7 +19,6 @@ use Rattle.line_readers.specs.Walks.{goes, refused}
 use Rattle.line_readers.specs.Laws.Walks.{no_goes}
 use Rattle.sheet_acts.specs.Acts.{Progress}
 use Rattle.reader.specs.Lines.{reads}
-use Rattle.reader.specs.declared.Reading.TheVariants.{Good, Refused}
 use Rattle.reader.specs.Answer.{verdict_of}
 use Rattle.reader.specs.Out.{ReadOutcome, read_outcome}
 use Rattle.reader.proofs.Laws.Exact.{outcome_one}
@@ -58,7 +57,7 @@ module _ (sheet p t : List ℕ) where
 
   -- a refusal, with the tables as they came
   abbrev bad : Name → ℕ → ReadOutcome
-  bad name k = read_outcome (Refused (refusal_at ls rest name k)) p t
+  bad name k = read_outcome (Err (refusal_at ls rest name k)) p t
 
   -- ---- each answer, from what the words say
 
@@ -93,7 +92,7 @@ module _ (sheet p t : List ℕ) where
   loop_back : Fit → ReadsWhole ls rest → (k : ℕ) → LoopAt (sheet_said fs) k → reading sheet p t ≡ bad Loop k
   loop_back l w k x = refuses_loop sheet p t (said fs) (whole_back l w) k x
 
-  good_back : Fit → ReadsWhole ls rest → NoLoop (sheet_said fs) → reading sheet p t ≡ read_outcome (Good (counts_of fs)) (periodic_table fs) (trigger_table fs)
+  good_back : Fit → ReadsWhole ls rest → NoLoop (sheet_said fs) → reading sheet p t ≡ read_outcome (Ok (counts_of fs)) (periodic_table fs) (trigger_table fs)
   good_back l w x = accepts_none sheet p t (said fs) (whole_back l w) x
 
   -- ---- one of them is given
@@ -159,17 +158,17 @@ module _ (sheet p t : List ℕ) where
       to s o (goes_on w e) = (fits o.lengths, w)
 
   -- what is handed out is what the frames say
-  pub reader_tables : (r : Counts) (p' t' : List ℕ) → reading sheet p t ≡ read_outcome (Good r) p' t' → (r ≡ counts_of fs) × (p' ≡ periodic_table fs) × (t' ≡ trigger_table fs)
-  reader_tables r p' t' h = to ((reader_says (read_outcome (Good r) p' t')).0 h)
+  pub reader_tables : (r : Counts) (p' t' : List ℕ) → reading sheet p t ≡ read_outcome (Ok r) p' t' → (r ≡ counts_of fs) × (p' ≡ periodic_table fs) × (t' ≡ trigger_table fs)
+  reader_tables r p' t' h = to ((reader_says (read_outcome (Ok r) p' t')).0 h)
     where
-      not_bad : {C : Type 0} (name : Name) (k : ℕ) → read_outcome (Good r) p' t' ≡ bad name k → C
+      not_bad : {C : Type 0} (name : Name) (k : ℕ) → read_outcome (Ok r) p' t' ≡ bad name k → C
       not_bad name k e = absurd (omega (arith, (no_other name).0, ap number_in e))
 
-      to : ComesBack sheet p t (read_outcome (Good r) p' t') → (r ≡ counts_of fs) × (p' ≡ periodic_table fs) × (t' ≡ trigger_table fs)
+      to : ComesBack sheet p t (read_outcome (Ok r) p' t') → (r ≡ counts_of fs) × (p' ≡ periodic_table fs) × (t' ≡ trigger_table fs)
       to (by_length f e) = not_bad Length 0 e
       to (at_line a j l x e) = not_bad a j e
       to (by_loop j l w x e) = not_bad Loop j e
       to (accepted l w x e) =
-          let q = outcome_one (Good r) (Good (counts_of fs)) p' (periodic_table fs) t' (trigger_table fs) e in
-          let g : Good r ≡ Good (counts_of fs) = q.0 in
+          let q = outcome_one (Ok r) (Ok (counts_of fs)) p' (periodic_table fs) t' (trigger_table fs) e in
+          let g : Ok r ≡ Ok (counts_of fs) = q.0 in
           (cc, q.1, q.2)

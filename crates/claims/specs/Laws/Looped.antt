@@ -1,6 +1,6 @@
 -- A sheet in bytes that is refused with LOOP: document 01's third example, "enable 0 gives disable 0" with delay 0, through the reader.
 -- Assumes nothing.
-use Rattle.std.specs.Prelude.{◌≡◌, refl, Bool, true, false}
+use Rattle.std.specs.Prelude.{◌≡◌, refl, Bool, true, false, Err}
 use Rattle.std.proofs.lemmas.Bool.{false≢true}
 use Rattle.std.proofs.Common.{arith}
 use Rattle.answers.specs.Answers.{refusal}
@@ -24,7 +24,6 @@ use Rattle.sheet_acts.specs.Acts.{Progress, seen_after, table_after, after}
 use Rattle.reader.specs.Line.{line_step}
 use Rattle.line_readers.specs.Walks.{Going, goes, refused, by_verdict, walks}
 use Rattle.reader.specs.Lines.{at_end, reads}
-use Rattle.reader.specs.declared.Reading.TheVariants.{Refused}
 use Rattle.reader.specs.Out.{read_outcome, sheet_read}
 use Rattle.reader.specs.Reading.{start, sheet_lengths_fit, reading}
 use Rattle.claims.specs.Words.{ReadsInOrder, no_periodics, no_triggers, looped}
@@ -66,5 +65,5 @@ has_loop =
       is_first = λ a b x y c. omega arith;
     }
 
-pub not_all_passed : reading looped no_periodics no_triggers ≡ read_outcome (Refused (refusal Loop 0)) no_periodics no_triggers
+pub not_all_passed : reading looped no_periodics no_triggers ≡ read_outcome (Err (refusal Loop 0)) no_periodics no_triggers
 not_all_passed = refuses_loop looped no_periodics no_triggers found in_order_lem 0 has_loop

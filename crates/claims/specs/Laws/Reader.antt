@@ -1,7 +1,7 @@
 -- The reader is exact on loops. A sheet that reads in good order is refused with LOOP at the place of its loop, or accepted where it has none; and no other sheet is either,
 -- for no test of a line gives LOOP.
 -- Assumes nothing.
-use Rattle.std.specs.Prelude.{◌≡◌, ◌⊎◌, ◌↔◌, Bool, true, false, cond, List, ℕ, ◌+◌, ◌<◌, length}
+use Rattle.std.specs.Prelude.{◌≡◌, ◌⊎◌, ◌↔◌, Bool, true, false, cond, List, ℕ, ◌+◌, ◌<◌, length, Err, Ok, Result}
 use Rattle.std.proofs.Math.Path.{refl}
 use Rattle.std.proofs.Common.{sym, ap, ◌∙◌, subst, arith, lt-ltb, le-ltb}
 use Rattle.std.proofs.Math.Logic.{inl, inr, ⊎_elim}
@@ -14,11 +14,9 @@ use Rattle.theory.proofs.Laws.OneSolution.{good_heads}
 use Rattle.answers.specs.declared.Name.{Name}
 use Rattle.answers.specs.declared.Name.TheVariants.{Length, Frame, Check, Kind, Field, TooMany, Count, Loop}
 use Rattle.answers.specs.declared.Refusal.{Refusal}
-use Rattle.answers.specs.declared.Verdict.{Verdict}
 use Rattle.answers.specs.declared.Answer.{Answer}
-use Rattle.answers.specs.declared.Verdict.TheVariants.{Pass, Refused}
 use Rattle.line_readers.specs.declared.Tests.{Tests}
-use Rattle.answers.specs.Answers.{number_of, answered, refuse, refusal}
+use Rattle.answers.specs.Answers.{number_of, answered, refuse, refusal, Verdict, pass}
 use Rattle.line_readers.specs.Order.{in_order}
 use Rattle.line_readers.specs.Column.{located}
 use Rattle.text.specs.Lines.{Lines, none, endless, line, lines}
@@ -31,8 +29,6 @@ use Rattle.sheet_tests.specs.Judge.{line_tests, line_field, judge_line}
 use Rattle.sheet_acts.specs.Acts.{Progress, after}
 use Rattle.reader.specs.Line.{line_step}
 use Rattle.reader.specs.Lines.{at_end, reads}
-use Rattle.reader.specs.declared.Reading.{Reading}
-use Rattle.reader.specs.declared.Reading.TheVariants.{Good, Refused}
 use Rattle.reader.specs.Answer.{verdict_of}
 use Rattle.reader.specs.Out.{ReadOutcome, read_outcome, sheet_read, out_by_loop, after_lines}
 use Rattle.reader.specs.Reading.{start, by_lines, sheet_lengths_fit, reading}
@@ -40,6 +36,7 @@ use Rattle.accepted.specs.Laws.Accepted.{start_so_far}
 use Rattle.accepted.specs.Laws.Lines.{read_so_far}
 use Rattle.claims.specs.Words.{ReadsInOrder}
 use Rattle.claims.specs.Laws.Numbers.{not_ok}
+use Rattle.tables.specs.declared.Counts.{Counts}
 
 -- ---- no test of a line gives LOOP
 
@@ -54,8 +51,8 @@ test_not false v name place h n = n
 -- nor is it with its column
 located_not : (l : List ℕ) (field : ℕ) (v : Verdict) → NotLoop v → NotLoop (located l field v)
 unfolding located
-located_not l field Pass h = h
-located_not l field (Refused r) h = h
+located_not l field (Ok tt) h = h
+located_not l field (Err r) h = h
 
 line_not : (place : ℕ) (s : Seen) (l : List ℕ) → NotLoop (judge_line place s l)
 unfolding judge_line in_order
@@ -67,7 +64,7 @@ line_not place s l =
     (test_not t.kind _ Kind place
     (test_not t.room _ TooMany place
     (test_not t.field _ Field place
-    (test_not t.last Pass Count place (λ e. omega (arith, e)) (λ e. omega (arith, e)))
+    (test_not t.last pass Count place (λ e. omega (arith, e)) (λ e. omega (arith, e)))
     (λ e. omega (arith, e)))
     (λ e. omega (arith, e)))
     (λ e. omega (arith, e)))
@@ -76,13 +73,13 @@ line_not place s l =
 
 -- what goes on, or its refusal, as a verdict
 abbrev verdict_in : Going Progress → Verdict
-verdict_in (goes s) = Pass
-verdict_in (refused r) = Refused r
+verdict_in (goes s) = pass
+verdict_in (refused r) = Err r
 
 by_verdict_lem : (v : Verdict) (made : Progress) → NotLoop v → NotLoop (verdict_in (by_verdict v made))
 unfolding by_verdict
-by_verdict_lem Pass made h = h
-by_verdict_lem (Refused r) made h = h
+by_verdict_lem (Ok tt) made h = h
+by_verdict_lem (Err r) made h = h
 
 end_not : (g : Stage) (s : Progress) → NotLoop (verdict_in (at_end g s))
 unfolding at_end
@@ -116,12 +113,12 @@ module _ (sheet p t : List ℕ) where
   after_order s o = rw (o.lengths, o.to_its_end) refl
 
   by_reads : sheet_lengths_fit (length sheet) (length p) (length t) ≡ true → (x : Going Progress) → reads (goes start) (lines sheet) ≡ x → NotLoop (verdict_in x)
-      → ((s : Progress) × ReadsInOrder sheet p t s) ⊎ ((r : Refusal) × (reading sheet p t ≡ read_outcome (Refused r) p t) × NotLoop (Refused r))
+      → ((s : Progress) × ReadsInOrder sheet p t s) ⊎ ((r : Refusal) × (reading sheet p t ≡ read_outcome (Err r) p t) × NotLoop (Err r))
   unfolding reading by_lines
   by_reads l (goes s) e h = inl (s, record { lengths = l; to_its_end = e })
   by_reads l (refused r) e h = inr (r, rw (l, e) refl, h)
 
-  order_cases : ((s : Progress) × ReadsInOrder sheet p t s) ⊎ ((r : Refusal) × (reading sheet p t ≡ read_outcome (Refused r) p t) × NotLoop (Refused r))
+  order_cases : ((s : Progress) × ReadsInOrder sheet p t s) ⊎ ((r : Refusal) × (reading sheet p t ≡ read_outcome (Err r) p t) × NotLoop (Err r))
   unfolding reading
   order_cases =
       ⊎_elim
@@ -133,8 +130,8 @@ module _ (sheet p t : List ℕ) where
   -- ---- and then it has a loop at a place, or none
 
   -- the refusal with LOOP
-  abbrev loop_at : ℕ → Reading
-  loop_at k = Refused (refusal Loop k)
+  abbrev loop_at : ℕ → Result Counts Refusal
+  loop_at k = Err (refusal Loop k)
 
   module _ (s : Progress) (o : ReadsInOrder sheet p t s) where
     pub refuses_loop : (k : ℕ) → LoopAt (sheet_read s) k → reading sheet p t ≡ read_outcome (loop_at k) p t
@@ -147,7 +144,7 @@ module _ (sheet p t : List ℕ) where
         after_order s o ∙ rw (lt-ltb (loop_place (sheet_read s)) PAIRS y.0) (ap (λ (x : ℕ). read_outcome (loop_at x) p t) e))
         (loop_or (sheet_read s) (good_heads (sheet_read s) (reader_order sheet p t s o)))
 
-    pub accepts_none : NoLoop (sheet_read s) → reading sheet p t ≡ read_outcome (Good s.seen.counts) s.tables.periodics s.tables.triggers
+    pub accepts_none : NoLoop (sheet_read s) → reading sheet p t ≡ read_outcome (Ok s.seen.counts) s.tables.periodics s.tables.triggers
     unfolding out_by_loop
     accepts_none nl =
         ⊎_elim
@@ -176,7 +173,7 @@ module _ (sheet p t : List ℕ) where
         let e : 0 ≡ 8 = ap (λ (a : Answer). a.number) (sym (ap answer_in (accepts_none x.0 x.1 n)) ∙ h) in
         absurd (omega arith))
         (loop_or_none x.0 x.1))
-        (λ (y : (r : Refusal) × (reading sheet p t ≡ read_outcome (Refused r) p t) × NotLoop (Refused r)). absurd (y.2 (ap (λ (a : Answer). a.number) (sym (ap answer_in y.1) ∙ h))))
+        (λ (y : (r : Refusal) × (reading sheet p t ≡ read_outcome (Err r) p t) × NotLoop (Err r)). absurd (y.2 (ap (λ (a : Answer). a.number) (sym (ap answer_in y.1) ∙ h))))
         order_cases),
     (λ x. ap answer_in (refuses_loop x.0 x.1 k x.2)),
   )
@@ -191,23 +188,23 @@ module _ (sheet p t : List ℕ) where
         (λ (l : (j : ℕ) × LoopAt (sheet_read x.0) j). not_ok (refusal Loop l.0) (sym (ap answer_in (refuses_loop x.0 x.1 l.0 l.1)) ∙ h))
         (λ (n : NoLoop (sheet_read x.0)). (x.0, x.1, n))
         (loop_or_none x.0 x.1))
-        (λ (y : (r : Refusal) × (reading sheet p t ≡ read_outcome (Refused r) p t) × NotLoop (Refused r)). not_ok y.0 (sym (ap answer_in y.1) ∙ h))
+        (λ (y : (r : Refusal) × (reading sheet p t ≡ read_outcome (Err r) p t) × NotLoop (Err r)). not_ok y.0 (sym (ap answer_in y.1) ∙ h))
         order_cases),
     (λ x. ap answer_in (accepts_none x.0 x.1 x.2)),
   )
 
   -- a refusal leaves both tables as they came
-  pub reader_keeps : (r : Refusal) → (reading sheet p t).answer ≡ Refused r → reading sheet p t ≡ read_outcome (Refused r) p t
+  pub reader_keeps : (r : Refusal) → (reading sheet p t).answer ≡ Err r → reading sheet p t ≡ read_outcome (Err r) p t
   reader_keeps r h =
-      let kept : (x : Reading) → reading sheet p t ≡ read_outcome x p t → reading sheet p t ≡ read_outcome (Refused r) p t
-      = λ x e. e ∙ ap (λ (a : Reading). read_outcome a p t) (sym (ap (λ (o : ReadOutcome). o.answer) e) ∙ h) in
+      let kept : (x : Result Counts Refusal) → reading sheet p t ≡ read_outcome x p t → reading sheet p t ≡ read_outcome (Err r) p t
+      = λ x e. e ∙ ap (λ (a : Result Counts Refusal). read_outcome a p t) (sym (ap (λ (o : ReadOutcome). o.answer) e) ∙ h) in
       ⊎_elim
       (λ (x : (s : Progress) × ReadsInOrder sheet p t s).
       ⊎_elim
       (λ (l : (j : ℕ) × LoopAt (sheet_read x.0) j). kept (loop_at l.0) (refuses_loop x.0 x.1 l.0 l.1))
       (λ (n : NoLoop (sheet_read x.0)).
-      let e : Good x.0.seen.counts ≡ Refused r = sym (ap (λ (o : ReadOutcome). o.answer) (accepts_none x.0 x.1 n)) ∙ h in
-      not_ok r (sym (ap (λ (a : Reading). answered (verdict_of a)) e)))
+      let e : Ok x.0.seen.counts ≡ Err r = sym (ap (λ (o : ReadOutcome). o.answer) (accepts_none x.0 x.1 n)) ∙ h in
+      not_ok r (sym (ap (λ (a : Result Counts Refusal). answered (verdict_of a)) e)))
       (loop_or_none x.0 x.1))
-      (λ (y : (r : Refusal) × (reading sheet p t ≡ read_outcome (Refused r) p t) × NotLoop (Refused r)). kept (Refused y.0) y.1)
+      (λ (y : (r : Refusal) × (reading sheet p t ≡ read_outcome (Err r) p t) × NotLoop (Err r)). kept (Err y.0) y.1)
       order_cases

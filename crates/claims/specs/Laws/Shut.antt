@@ -11,8 +11,6 @@ use Rattle.theory.specs.Events.{Events, Roles, enable, disable, conf, blocks, bl
 use Rattle.theory.specs.Instant.{Requests, request_fits}
 use Rattle.theory.specs.Box.{State, Step, SameState}
 use Rattle.theory.proofs.Laws.Below.{all_elim}
-use Rattle.answers.specs.declared.Verdict.{Verdict}
-use Rattle.answers.specs.declared.Verdict.TheVariants.{Pass}
 use Rattle.tables.specs.Buffers.{roles_of, events_of, waiting_of, Narrow}
 use Rattle.tables.specs.Asked.{asks}
 use Rattle.masks.specs.Laws.Bits.{bit_none}
@@ -31,6 +29,7 @@ use Rattle.examples.proofs.Laws.Said.{all_say}
 use Rattle.claims.specs.Words.{count_in, no_periodics, no_triggers, worked_sheet, worked, asked}
 use Rattle.claims.specs.Laws.Step.{step_passes_says}
 use Rattle.claims.specs.Laws.There.{step_total}
+use Rattle.answers.specs.Answers.{Verdict, pass}
 
 -- ---- the worked input
 
@@ -83,10 +82,10 @@ record FirstTwo (before after : ℕ → Lent) : Type 0 where
   roles_after : roles_of (after 1).roles ≡ roles_in (0 ∷ [])
 
 -- an accepted step of instant t is a step with the tape's requests
-stepped : (t : ℕ) → t < 2 → (l a : Lent) → Outcome worked (asked t) l Pass a → Step (sheet_in worked) (stream_of input.requests t) (state_in l) (events_of a.events) (state_in a)
+stepped : (t : ℕ) → t < 2 → (l a : Lent) → Outcome worked (asked t) l pass a → Step (sheet_in worked) (stream_of input.requests t) (state_in l) (events_of a.events) (state_in a)
 stepped t b l a o = subst (λ (q : Requests). Step (sheet_in worked) q (state_in l) (events_of a.events) (state_in a)) (lent_asks t b) (o.passed refl).step
 
-minute_0 : (l a : Lent) → SameState (state_in l) (state_of 0 [] []) → Outcome worked (asked 0) l Pass a → (events_of a.events ≡ among []) × SameState (state_in a) (state_of 1 [] [])
+minute_0 : (l a : Lent) → SameState (state_in l) (state_of 0 [] []) → Outcome worked (asked 0) l pass a → (events_of a.events ≡ among []) × SameState (state_in a) (state_of 1 [] [])
 minute_0 l a s o = (is_worked.minutes 0 (omega arith)).same (state_in l) s (events_of a.events) (state_in a) (stepped 0 (omega arith) l a o)
 
 first_two : (tables : ℕ → Rules) (before after : ℕ → Lent) → Steps 2 worked tables asked before after → FirstTwo before after
@@ -133,7 +132,7 @@ unfolding all_below request_fits
 all_fit = two (λ t. AllFit 3 (asked t)) (all_elim (asked 0).count (λ i. fits 3 ((asked 0).request i)) refl) (all_elim (asked 1).count (λ i. fits 3 ((asked 1).request i)) refl)
 
 -- every step in it is accepted
-accepted : (t : ℕ) → t < 2 → (l : Lent) → l.instant ≤ LAST_INSTANT → length l.waiting ≡ WAITING_NUMBERS → length l.events ≡ EVENTS → judge_step worked (asked t) l ≡ Pass
+accepted : (t : ℕ) → t < 2 → (l : Lent) → l.instant ≤ LAST_INSTANT → length l.waiting ≡ WAITING_NUMBERS → length l.events ≡ EVENTS → judge_step worked (asked t) l ≡ pass
 accepted t b l i w e =
     let good = reading_good worked_sheet no_periodics no_triggers _ _ _ is_worked.read in
     let sizes = reading_sizes worked_sheet no_periodics no_triggers _ _ _ is_worked.read in
@@ -156,11 +155,11 @@ abbrev quiet : ℕ → Lent
 quiet t = lent t 0 (replicate WAITING_NUMBERS 0) (replicate EVENTS 0)
 
 -- an accepted step from there
-from_quiet : (t : ℕ) → t < 2 → (a : Lent) × Outcome worked (asked t) (quiet t) Pass a
+from_quiet : (t : ℕ) → t < 2 → (a : Lent) × Outcome worked (asked t) (quiet t) pass a
 from_quiet t b =
     let narrow : Narrow 16 (replicate WAITING_NUMBERS 0) = λ i l. subst (λ (x : ℕ). x < 2 ^ 16) (sym (get_or-replicate {A = ℕ} WAITING_NUMBERS i 0 0 (omega (arith, l, length-replicate {A = ℕ} WAITING_NUMBERS 0)))) (omega arith) in
     let o = step_total worked (asked t) (quiet t) (omega arith) narrow in
-    let p : o.0.0 ≡ Pass = o.1.judged ∙ accepted t b (quiet t) (omega arith) (length-replicate {A = ℕ} WAITING_NUMBERS 0) (length-replicate {A = ℕ} EVENTS 0) in
+    let p : o.0.0 ≡ pass = o.1.judged ∙ accepted t b (quiet t) (omega arith) (length-replicate {A = ℕ} WAITING_NUMBERS 0) (length-replicate {A = ℕ} EVENTS 0) in
     (o.0.1, subst (λ (v : Verdict). Outcome worked (asked t) (quiet t) v o.0.1) p o.1)
 
 -- one thing at 0, and another from 1 on
@@ -187,7 +186,7 @@ minutes_run =
       record {
         fresh = record { instant = refl; roles = refl; waiting = refl };
         one_sheet = λ t l. rules_itself worked;
-        ok = two (λ t. Outcome worked (asked t) (at (quiet 0) (quiet 1) t) Pass (at x.0 y.0 t)) x.1 y.1;
+        ok = two (λ t. Outcome worked (asked t) (at (quiet 0) (quiet 1) t) pass (at x.0 y.0 t)) x.1 y.1;
         on = λ t. elim t as (λ k. suc k < 2 → HandedOn (at x.0 y.0 k) (at (quiet 0) (quiet 1) (suc k))) [ zero ↦ λ l. on | suc u ↦ λ l. absurd (omega (arith, l)) ];
       },
     )

@@ -1,7 +1,7 @@
 -- The step is exact on loops and on all that it accepts: OK exactly where everything is within its limits and there is no loop, LOOP at k exactly where all that is tested before it
 -- is and the loop is at k.
 -- Assumes nothing.
-use Rattle.std.specs.Prelude.{◌≡◌, refl, ◌↔◌, Bool, true, false, cond, ℕ, leb}
+use Rattle.std.specs.Prelude.{◌≡◌, refl, ◌↔◌, Bool, true, false, cond, ℕ, leb, Err, Ok}
 use Rattle.std.proofs.Common.{sym, ap, ◌∙◌, subst, arith}
 use Rattle.std.proofs.Math.Logic.{⊎_elim}
 use Rattle.std.proofs.Math.Dec.{ltb}
@@ -12,9 +12,7 @@ use Rattle.theory.specs.Graph.{NoLoop, LoopAt}
 use Rattle.theory.proofs.Laws.Tests.{test}
 use Rattle.answers.specs.declared.Name.{Name}
 use Rattle.answers.specs.declared.Name.TheVariants.{Length, TooMany, Loop, Last}
-use Rattle.answers.specs.declared.Verdict.{Verdict}
-use Rattle.answers.specs.declared.Verdict.TheVariants.{Pass, Refused}
-use Rattle.answers.specs.Answers.{number_of, answered, refuse, and_then}
+use Rattle.answers.specs.Answers.{number_of, answered, refuse, and_then, Verdict, pass}
 use Rattle.tables.specs.Asked.{Asked}
 use Rattle.table_judge.specs.Judge.{judge_tables}
 use Rattle.tables.specs.Lent.{Rules, sheet_in, Lent}
@@ -36,8 +34,8 @@ past false v name place k n e = absurd (n (ap (λ (x : Verdict). (answered x).nu
 -- and so did what is tested before something that never gives it
 then_past : (v w : Verdict) (k : ℕ) → ((answered w).number ≡ 8 → ⊥) → and_then v w ≡ refuse Loop k → v ≡ refuse Loop k
 unfolding and_then
-then_past Pass w k n e = absurd (n (ap (λ (x : Verdict). (answered x).number) e))
-then_past (Refused r) w k n e = e
+then_past (Ok tt) w k n e = absurd (n (ap (λ (x : Verdict). (answered x).number) e))
+then_past (Err r) w k n e = e
 
 module _ (R : Rules) (q : Asked) (l : Lent) where
   requests_not : (answered (judge_requests R.counts.roles q)).number ≡ 8 → ⊥
@@ -61,7 +59,7 @@ module _ (R : Rules) (q : Asked) (l : Lent) where
       }
 
   -- THE THEOREM: a step is OK exactly where all is in order, there is no loop, and each request is within its limits
-  pub step_passes_says : (judge_step R q l ≡ Pass) ↔ (Ordered R q l × NoLoop (sheet_in R) × AllFit R.counts.roles q)
+  pub step_passes_says : (judge_step R q l ≡ pass) ↔ (Ordered R q l × NoLoop (sheet_in R) × AllFit R.counts.roles q)
   step_passes_says = (
     (λ h.
         let a : StepAccepted R q l = step_passes R q l h in
@@ -115,4 +113,4 @@ step_loops R q l v a o k =
 pub step_ok : (R : Rules) (q : Asked) (l : Lent) (v : Verdict) (a : Lent) → Outcome R q l v a → (answered v ≡ record { number = 0; place = 0; column = 0 }) ↔ (Ordered R q l × NoLoop (sheet_in R) × AllFit R.counts.roles q)
 step_ok R q l v a o =
     let x = step_passes_says R q l in
-    ((λ e. x.0 (sym o.judged ∙ answered_once v Pass e)), (λ y. ap answered (o.judged ∙ x.1 y)))
+    ((λ e. x.0 (sym o.judged ∙ answered_once v pass e)), (λ y. ap answered (o.judged ∙ x.1 y)))

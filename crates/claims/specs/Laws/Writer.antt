@@ -1,6 +1,6 @@
 -- The writer's answers: LENGTH where something lent has not its length; else what the judge of the tables says. And there is an outcome for any tables of bytes.
 -- Assumes nothing.
-use Rattle.std.specs.Prelude.{◌≡◌, ◌↔◌, Bool, true, false, ◌&&◌, List, [], ◌++◌, leb, get_or, drop}
+use Rattle.std.specs.Prelude.{◌≡◌, ◌↔◌, Bool, true, false, ◌&&◌, List, [], ◌++◌, leb, get_or, drop, Err, Ok, Result}
 use Rattle.std.proofs.Math.Path.{refl, sym, ap}
 use Rattle.std.proofs.Common.{◌∙◌, subst, ⊎_elim}
 use Rattle.std.proofs.Math.Logic.{by_cases}
@@ -21,9 +21,7 @@ use Rattle.answers.specs.declared.Name.{Name}
 use Rattle.answers.specs.declared.Name.TheVariants.{Length, Frame, Check, Kind, Field, TooMany, Count, Loop, Request, Last}
 use Rattle.answers.specs.declared.Answer.{Answer}
 use Rattle.answers.specs.declared.Refusal.{Refusal}
-use Rattle.answers.specs.declared.Verdict.{Verdict}
-use Rattle.answers.specs.declared.Verdict.TheVariants.{Pass, Refused}
-use Rattle.answers.specs.Answers.{answered, refusal, refuse, and_then}
+use Rattle.answers.specs.Answers.{answered, refusal, refuse, and_then, verdict_of, Verdict, pass}
 use Rattle.answers.proofs.Laws.{verdict_cases}
 use Rattle.tables.specs.declared.Counts.{Counts}
 use Rattle.tables.specs.Layout.{PERIODIC_BYTES, TRIGGER_BYTES, PERIODIC_TABLE, TRIGGER_TABLE, byte_at, trigger_from, trigger_at}
@@ -38,8 +36,7 @@ use Rattle.table_judge.specs.Says.{FewRows, RolesFit, UnfitAt, RefusalSays, Says
 use Rattle.table_judge.proofs.Laws.{judge_says, judge_refuses_not, judge_finds}
 use Rattle.table_judge.proofs.Laws.Answer.{tables_refused}
 use Rattle.line_by_line.specs.Lines.{joined}
-use Rattle.writer.specs.declared.Sent.{Sent}
-use Rattle.writer.specs.Outcome.{Writes, write_lengths_fit, judge_writing, unwritten, WriteOutcome}
+use Rattle.writer.specs.Outcome.{Writes, write_lengths_fit, judge_writing, WriteOutcome}
 use Rattle.requests.specs.Requests.{first_outside, judge_requests}
 use Rattle.step_tests.specs.Order.{exact_lengths}
 use Rattle.step.specs.Outcome.{lengths_fit, judge_step, Outcome}
@@ -131,44 +128,44 @@ module _ (sh : Sheet) where
   refusal_judged Last k s = absurd s
 
   says_judged : (v : Verdict) → Says sh v → v ≡ judge_tables sh
-  says_judged Pass s = sym (judge_refuses_not sh s.0 s.1)
-  says_judged (Refused x) s = (λ i. Refused (record { name = x.name; place = x.place; column = s.1 i })) ∙ refusal_judged x.name x.place s.0
+  says_judged (Ok tt) s = sym (judge_refuses_not sh s.0 s.1)
+  says_judged (Err x) s = (λ i. Err (record { name = x.name; place = x.place; column = s.1 i })) ∙ refusal_judged x.name x.place s.0
 
   pub says_one : (v : Verdict) → Says sh v ↔ (v ≡ judge_tables sh)
   says_one v = (says_judged v, (λ e. subst (Says sh) (sym e) (judge_says sh)))
 
 -- ---- the answers
 
-module _ (R : Rules) (out : List ℕ) (r : Sent) (out' : List ℕ) (o : WriteOutcome R out r out') where
-  pub writer_length : ¬ WriteLengths R out → answered r.verdict ≡ record { number = 1; place = 0; column = 0 }
+module _ (R : Rules) (out : List ℕ) (r : Result ℕ Refusal) (out' : List ℕ) (o : WriteOutcome R out r out') where
+  pub writer_length : ¬ WriteLengths R out → answered (verdict_of r) ≡ record { number = 1; place = 0; column = 0 }
   writer_length n = ap answered (o.verdict ∙ judged_length R out n)
 
-  pub writer_says : WriteLengths R out → (v : Verdict) → Says (sheet_in R) v ↔ (v ≡ r.verdict)
+  pub writer_says : WriteLengths R out → (v : Verdict) → Says (sheet_in R) v ↔ (v ≡ verdict_of r)
   writer_says w v =
-      let e : r.verdict ≡ judge_tables (sheet_in R) = o.verdict ∙ judged_tables R out w in
+      let e : verdict_of r ≡ judge_tables (sheet_in R) = o.verdict ∙ judged_tables R out w in
       ((λ s. (says_one (sheet_in R) v).0 s ∙ sym e), (λ f. (says_one (sheet_in R) v).1 (f ∙ e)))
 
-  pub writer_ok : (answered r.verdict ≡ record { number = 0; place = 0; column = 0 }) ↔ (WriteLengths R out × GoodOrder (sheet_in R) × NoLoop (sheet_in R))
+  pub writer_ok : (answered (verdict_of r) ≡ record { number = 0; place = 0; column = 0 }) ↔ (WriteLengths R out × GoodOrder (sheet_in R) × NoLoop (sheet_in R))
   writer_ok = (
     (λ h.
-        let e : judge_writing R (length out) ≡ Pass = sym o.verdict ∙ answered_once r.verdict Pass h in
+        let e : judge_writing R (length out) ≡ pass = sym o.verdict ∙ answered_once (verdict_of r) pass h in
         let s = passes_say R (length out) e in
         let g = passes_good R (length out) e in
         (record { periodics = s.periodic_bytes; triggers = s.trigger_bytes; buffer = s.buffer }, g.0, g.1)),
     (λ x. ap answered (o.verdict ∙ judged_tables R out x.0 ∙ judge_refuses_not (sheet_in R) x.1 x.2)),
   )
 
-  pub writer_loops : (k : ℕ) → (answered r.verdict ≡ record { number = 8; place = k; column = 0 }) ↔ (WriteLengths R out × GoodOrder (sheet_in R) × LoopAt (sheet_in R) k)
+  pub writer_loops : (k : ℕ) → (answered (verdict_of r) ≡ record { number = 8; place = k; column = 0 }) ↔ (WriteLengths R out × GoodOrder (sheet_in R) × LoopAt (sheet_in R) k)
   writer_loops k = (
     (λ h.
-        let e : r.verdict ≡ refuse Loop k = answered_once r.verdict (refuse Loop k) h in
+        let e : verdict_of r ≡ refuse Loop k = answered_once (verdict_of r) (refuse Loop k) h in
         ⊎_elim
         (λ (f : fit R out ≡ true).
         let w : WriteLengths R out = fits_say R out f in
         let s : Says (sheet_in R) (refuse Loop k) = (writer_says w (refuse Loop k)).1 (sym e) in
         (w, s.0.0, s.0.1))
         (λ (f : fit R out ≡ false).
-        let n : answered r.verdict ≡ record { number = 1; place = 0; column = 0 } = writer_length (λ w. not_both (so_fits R out w) f) in
+        let n : answered (verdict_of r) ≡ record { number = 1; place = 0; column = 0 } = writer_length (λ w. not_both (so_fits R out w) f) in
         let z : ◌≡◌ {A = ℕ} 1 8 = ap (λ (a : Answer). a.number) (sym n ∙ h) in
         absurd (omega arith))
         (test (fit R out))),
@@ -177,19 +174,19 @@ module _ (R : Rules) (out : List ℕ) (r : Sent) (out' : List ℕ) (o : WriteOut
 
 -- ---- as in a step
 
-then_pass : (v : Verdict) → and_then v Pass ≡ v
+then_pass : (v : Verdict) → and_then v pass ≡ v
 unfolding and_then
-then_pass Pass = refl
-then_pass (Refused x) = refl
+then_pass (Ok tt) = refl
+then_pass (Err x) = refl
 
 -- a step that meets nothing else asks the same: no requests, an instant that is not above the last, and buffers of their lengths
-pub writer_as_step : (R : Rules) (out : List ℕ) (r : Sent) (out' : List ℕ) → WriteOutcome R out r out' → WriteLengths R out
+pub writer_as_step : (R : Rules) (out : List ℕ) (r : Result ℕ Refusal) (out' : List ℕ) → WriteOutcome R out r out' → WriteLengths R out
     → (q : Asked) → q.count ≡ 0 → (l : Lent) → length l.waiting ≡ WAITING_NUMBERS → length l.events ≡ EVENTS → l.instant ≤ LAST_INSTANT
-    → (v : Verdict) (a : Lent) → Outcome R q l v a → r.verdict ≡ v
+    → (v : Verdict) (a : Lent) → Outcome R q l v a → verdict_of r ≡ v
 unfolding judge_step lengths_fit exact_lengths judge_requests
 writer_as_step R out r out' o w q none l waits events served v a s =
     let few : leb q.count REQUESTS ≡ true = le-leb q.count REQUESTS (omega arith) in
-    let no-request : judge_requests R.counts.roles q ≡ Pass = rw (le-ltb (first_outside R.counts.roles q) q.count (omega arith)) in
+    let no-request : judge_requests R.counts.roles q ≡ pass = rw (le-ltb (first_outside R.counts.roles q) q.count (omega arith)) in
     let e : judge_step R q l ≡ and_then (judge_tables (sheet_in R)) (judge_requests R.counts.roles q) =
     rw (eq-eqb _ _ w.periodics, eq-eqb _ _ w.triggers, eq-eqb _ _ waits, eq-eqb _ _ events, le-leb l.instant LAST_INSTANT served, few) in
     o.verdict
@@ -202,38 +199,38 @@ writer_as_step R out r out' o w q none l waits events served v a s =
 bytes_of : (l : List ℕ) → Narrow 8 l → (k : ℕ) → byte_at l k < 256
 bytes_of l h k = by_cases (dec_lt k (length l)) (λ (b : k < length l). h k b) (λ (b : ¬ (k < length l)). omega (arith, get_or-eq_default l 0 {n = k} (omega arith)))
 
-pub writer_total : (R : Rules) (out : List ℕ) → Narrow 8 R.tables.periodics → Narrow 8 R.tables.triggers → ExactlyOne (λ (o : Sent × List ℕ). WriteOutcome R out o.0 o.1)
+pub writer_total : (R : Rules) (out : List ℕ) → Narrow 8 R.tables.periodics → Narrow 8 R.tables.triggers → ExactlyOne (λ (o : Result ℕ Refusal × List ℕ). WriteOutcome R out o.0 o.1)
 writer_total R out per trg =
     ⊎_elim
-    (λ (e : judge_writing R (length out) ≡ Pass).
+    (λ (e : judge_writing R (length out) ≡ pass).
     let good = (passes_good R (length out) e).0 in
     let p = bytes_of R.tables.periodics per in
     let t = bytes_of R.tables.triggers trg in
     let ls = made R good p t in
     one
-    (record { verdict = Pass; length = length (joined ls) })
+    (Ok (length (joined ls)))
     (joined ls ++ drop (length (joined ls)) out)
     (record {
       verdict = sym e;
-      passed = λ h. record { sent = ls; writes = made_writes R good p t; size = refl; buffer = refl };
+      passed = λ n h. record { sent = ls; writes = made_writes R good p t; size = sym (let q : length (joined ls) ≡ n = cc in q); buffer = refl };
       refused = λ x h. absurd (let z : ◌≡◌ {A = ℕ} 0 1 = cc h in omega arith);
     }))
-    (λ (e : (x : Refusal) × (judge_writing R (length out) ≡ Refused x)).
-    one (unwritten e.0) out
-    (record { verdict = sym e.1; passed = λ h. absurd (let z : ◌≡◌ {A = ℕ} 0 1 = cc h in omega arith); refused = λ x h. (ap unwritten (let q : e.0 ≡ x = cc in q), refl) }))
+    (λ (e : (x : Refusal) × (judge_writing R (length out) ≡ Err x)).
+    one (Err e.0) out
+    (record { verdict = sym e.1; passed = λ n h. absurd (let z : ◌≡◌ {A = ℕ} 0 1 = cc h in omega arith); refused = λ x h. refl }))
     (verdict_cases (judge_writing R (length out)))
   where
-    one : (r : Sent) (out' : List ℕ) → WriteOutcome R out r out' → ExactlyOne (λ (o : Sent × List ℕ). WriteOutcome R out o.0 o.1)
+    one : (r : Result ℕ Refusal) (out' : List ℕ) → WriteOutcome R out r out' → ExactlyOne (λ (o : Result ℕ Refusal × List ℕ). WriteOutcome R out o.0 o.1)
     one r out' w = ((r, out'), w, λ o x. let s = write_exact R out o.0 r o.1 out' x w in λ i. (s.0 i, s.1 i))
 
 -- ---- what lies past stays, and unused rows and places are ignored
 
 -- what stands behind the written bytes
-pub writer_stays : (R : Rules) (out : List ℕ) (r : Sent) (out' : List ℕ) → WriteOutcome R out r out' → r.verdict ≡ Pass → (drop r.length out' ≡ drop r.length out) × (length out' ≡ length out)
-writer_stays R out r out' o ok = front_stays R (passes_good R (length out) e).0 out (passes_say R (length out) e).buffer r out' (o.passed ok)
+pub writer_stays : (R : Rules) (out : List ℕ) (n : ℕ) (out' : List ℕ) → WriteOutcome R out (Ok n) out' → (drop n out' ≡ drop n out) × (length out' ≡ length out)
+writer_stays R out n out' o = front_stays R (passes_good R (length out) e).0 out (passes_say R (length out) e).buffer n out' (o.passed n refl)
   where
-    e : judge_writing R (length out) ≡ Pass
-    e = sym o.verdict ∙ ok
+    e : judge_writing R (length out) ≡ pass
+    e = sym o.verdict
 
 -- a line that says a row says the same row of tables that are the same in all that is used
 module _ (R R' : Rules) (s : SameRules R R') where
@@ -277,12 +274,12 @@ module _ (R R' : Rules) (s : SameRules R R') where
       let f : (a b : ℕ) → a ≡ length R'.tables.periodics → b ≡ length R'.tables.triggers → write_lengths_fit a b n ≡ write_lengths_fit (length R'.tables.periodics) (length R'.tables.triggers) n = λ a b p q i. write_lengths_fit (p i) (q i) n in
       rw (f _ _ s.periodics.size s.triggers.size, tables_used R R' s)
 
-  pub writer_used : (out : List ℕ) (r r' : Sent) (out' out'' : List ℕ) → WriteOutcome R out r out' → WriteOutcome R' out r' out'' → (r ≡ r') × (out' ≡ out'')
+  pub writer_used : (out : List ℕ) (r r' : Result ℕ Refusal) (out' out'' : List ℕ) → WriteOutcome R out r out' → WriteOutcome R' out r' out'' → (r ≡ r') × (out' ≡ out'')
   writer_used out r r' out' out'' x y =
       write_exact R' out r r' out' out''
       (record {
         verdict = x.verdict ∙ same_judged (length out);
-        passed = λ p. let f = x.passed p in record { sent = f.sent; writes = same_writes f.sent f.writes; size = f.size; buffer = f.buffer };
+        passed = λ n p. let f = x.passed n p in record { sent = f.sent; writes = same_writes f.sent f.writes; size = f.size; buffer = f.buffer };
         refused = x.refused;
       })
       y

@@ -1,7 +1,7 @@
 -- `day_print::day` meets its contract: the buffer has its length, or nothing is written.
 -- Assumes nothing.
-use mathlib.Core.Path.{refl, ap, ◌∙◌}
-use Rattle.day_print.specs.Day.{unprinted}
+use mathlib.Core.Path.{refl, ap}
+use Rattle.std.specs.Prelude.{Err}
 use Rattle.day_print.proofs.day.Goals as goal
 
 pub returns-then-out-eq-OUTPUT_BYTES : goal.returns-then-out-eq-OUTPUT_BYTES
@@ -10,4 +10,4 @@ returns-then-out-eq-OUTPUT_BYTES c =
 
 pub returns : goal.returns
 returns c =
-    record { fits = λ e. absurd (c.if-out-eq-OUTPUT_BYTES.false e); unfit = λ _. (c.refused.ensures ∙ ap unprinted c.refusal_of.ensures, refl) }
+    record { fits = λ e. absurd (c.if-out-eq-OUTPUT_BYTES.false e); unfit = λ _. (ap Err c.refusal_of.ensures, refl) }

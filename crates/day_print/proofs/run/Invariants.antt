@@ -1,7 +1,5 @@
 -- `day_print::run` meets its contract. The loop's invariant is the run's `Standing` and what is `Written`: before each instant the state is that of any run, the tape stands at its requests, and the lines so far are in the buffer.
--- The measure is how many instants are left.
 -- Assumes nothing.
-use Prim.Native.Nat.{◌+◌, ◌-◌, ◌≤◌}
 use Rattle.tables.specs.Lent.{rules, lent}
 use Rattle.day_run.specs.Run.{Standing}
 use Rattle.day_lines.specs.Written.{Written}
@@ -9,8 +7,4 @@ use Rattle.day_print.proofs.run.Given as goal
 
 abbrev pub invariant-loop-t : goal.invariant-loop-t
 invariant-loop-t l =
-    (l.t ≤ l.last + 1) × Standing (rules l.counts l.periodics l.triggers) l.tape l.t (lent l.instant l.enabled l.waiting l.events) l.at × Written (rules l.counts l.periodics l.triggers) l.tape l.t l.initial.out l.out
-
-abbrev pub decreases-loop-t : goal.decreases-loop-t
-decreases-loop-t l =
-    l.last + 1 - l.t
+    Standing (rules l.counts l.periodics l.triggers) l.tape l.t (lent l.instant l.enabled l.waiting l.events) l.at × Written (rules l.counts l.periodics l.triggers) l.tape l.t l.initial.out l.out

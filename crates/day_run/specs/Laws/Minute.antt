@@ -10,7 +10,6 @@ use Rattle.theory.specs.Instant.{Requests}
 use Rattle.theory.specs.Model.{Trace}
 use Rattle.theory.specs.Box.{State, Step, SameState}
 use Rattle.theory.proofs.Laws.Run.{step_same}
-use Rattle.answers.specs.declared.Verdict.TheVariants.{Pass}
 use Rattle.text.specs.Lines.{Lines, lines}
 use Rattle.tables.specs.Buffers.{roles_of, events_of}
 use Rattle.tables.specs.Asked.{Asked, flat, asks}
@@ -27,6 +26,7 @@ use Rattle.day_minute.specs.Minute.{batch_at, rest_at, MinuteOutcome}
 use Rattle.day_run.specs.Run.{GoodInput, RunOf, ModelOf, Cursor, Standing}
 use Rattle.day_run.specs.Laws.Model.{good_sheet, run_of}
 use Rattle.day_run.specs.Laws.Cursor.{Taken, cursor_start, cursor_next}
+use Rattle.answers.specs.Answers.{pass}
 
 module _ (R : Rules) (tape : List ℕ) (ok : GoodInput R tape) where
   abbrev sh : Sheet
@@ -65,7 +65,7 @@ module _ (R : Rules) (tape : List ℕ) (ok : GoodInput R tape) where
         (cursor_next R.counts.roles n (lines tape) (lines (drop at tape)) at s.cursor)
 
     -- the step is not refused
-    pub minute_passes : r.verdict ≡ Pass
+    pub minute_passes : r.verdict ≡ pass
     minute_passes =
         m.step.judged
         ∙ step_accepts R q l

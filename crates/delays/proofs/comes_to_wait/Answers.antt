@@ -1,7 +1,7 @@
 -- `delays::comes_to_wait` meets its contract: the definition's tests in their order, each asked where those before it pass.
 -- Assumes nothing.
 use mathlib.Core.Path.{refl, sym, ◌∙◌}
-use borrow.Author.Tests.{not-true, not-false}
+use borrow.Author.Tests.{not-false}
 use Rattle.tables.proofs.Laws.{delay_byte}
 use Rattle.delays.specs.Laws.{delay_none, delay_some}
 use Rattle.delays.proofs.comes_to_wait.Goals as goal
@@ -10,11 +10,6 @@ pub returns-then-trigger_byte-eq0 : goal.returns-then-trigger_byte-eq0
 returns-then-trigger_byte-eq0 c =
     let a = c.args in
     rw (delay_none _ _ (c.trigger_byte.ensures ∙ delay_byte a.triggers.now a.i) c.if-trigger_byte-eq0.true) refl
-
-pub returns-then-not-allows : goal.returns-then-not-allows
-returns-then-not-allows c =
-    let a = c.args in
-    rw (sym c.allows.ensures ∙ not-true _ c.if-not-allows.true-raw, delay_some _ _ (c.trigger_byte.ensures ∙ delay_byte a.triggers.now a.i) c.if-trigger_byte-eq0.false) refl
 
 pub returns : goal.returns
 returns c =

@@ -1,7 +1,6 @@
 -- `delays::wait_triggers` meets its contract. The loop's invariant: the entries of the first i triggers have joined.
 -- Assumes nothing.
 use mathlib.Core.Path.{◌≡◌}
-use Prim.Native.Nat.{◌-◌, ◌≤◌}
 use lib.ListN.{length}
 use Rattle.tables.specs.Layout.{trigger_at}
 use Rattle.tables.specs.Buffers.{roles_of, events_of}
@@ -11,8 +10,4 @@ use Rattle.delays.proofs.wait_triggers.Given as goal
 
 abbrev pub invariant-loop-i : goal.invariant-loop-i
 invariant-loop-i l =
-    (l.i ≤ l.n) × (length l.waiting ≡ length l.initial.waiting) × (l.waiting ≡ joins l.initial.waiting l.i (λ k. trigger_entry (roles_of l.roles) (events_of l.events) l.t (trigger_at l.triggers k)))
-
-abbrev pub decreases-loop-i : goal.decreases-loop-i
-decreases-loop-i l =
-    l.n - l.i
+    (length l.waiting ≡ length l.initial.waiting) × (l.waiting ≡ joins l.initial.waiting l.i (λ k. trigger_entry (roles_of l.roles) (events_of l.events) l.t (trigger_at l.triggers k)))

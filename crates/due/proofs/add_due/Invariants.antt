@@ -1,7 +1,6 @@
 -- `due::add_due` meets its contract. The loop's invariant: the entries of the first i rows have joined.
 -- Assumes nothing.
 use mathlib.Core.Path.{◌≡◌}
-use Prim.Native.Nat.{◌-◌, ◌≤◌}
 use lib.ListN.{length}
 use Rattle.masks.specs.Joins.{joins}
 use Rattle.due.specs.Due.{due_at}
@@ -9,8 +8,4 @@ use Rattle.due.proofs.add_due.Given as goal
 
 abbrev pub invariant-loop-i : goal.invariant-loop-i
 invariant-loop-i l =
-    (l.i ≤ l.n) × (length l.events ≡ length l.initial.events) × (l.events ≡ joins l.initial.events l.i (due_at l.periodics l.t))
-
-abbrev pub decreases-loop-i : goal.decreases-loop-i
-decreases-loop-i l =
-    l.n - l.i
+    (length l.events ≡ length l.initial.events) × (l.events ≡ joins l.initial.events l.i (due_at l.periodics l.t))

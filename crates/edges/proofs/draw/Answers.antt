@@ -9,7 +9,7 @@ use Rattle.edges.proofs.draw.Goals as goal
 pub loop-i-init : goal.loop-i-init
 loop-i-init c =
     let a = c.args in
-    (search rules, λ E h. draws_none (tail_of a.negative) _ (triggers_of a.n a.triggers.now) E _ h)
+    λ E h. draws_none (tail_of a.negative) _ (triggers_of a.n a.triggers.now) E _ h
 
 pub loop-i-preserved : goal.loop-i-preserved
 loop-i-preserved c =
@@ -18,9 +18,9 @@ loop-i-preserved c =
     let i = c.loop-i.i in
     let from = tail_of a.negative in
     let sh = triggers_of n a.triggers.now in
-    (search rules, λ E h. draws_next from _ sh E _ i (c.draw_trigger.ensures n (added_from _ (draws_below from sh i) E) (c.loop-i.invariant.1 E h)))
+    λ E h. draws_next from _ sh E _ i (c.draw_trigger.ensures n (added_from _ (draws_below from sh i) E) (c.loop-i.invariant E h))
 
 pub returns : goal.returns
 returns c =
     let a = c.args in
-    λ E h. draws_end (tail_of a.negative) _ (triggers_of a.n a.triggers.now) E _ a.n c.loop-i.i (search rules) (search rules) (c.loop-i.invariant.1 E h)
+    λ E h. draws_end (tail_of a.negative) _ (triggers_of a.n a.triggers.now) E _ a.n c.loop-i.i (search rules) (search rules) (c.loop-i.invariant E h)

@@ -1,6 +1,6 @@
 -- What a day's input opens: where its sheet and its tape are read to what is expected, these are what its opening has.
 -- Assumes nothing.
-use Rattle.std.specs.Prelude.{◌≡◌, Bool, true, false, ◌&&◌, ◌||◌, List, [], ◌∷◌, ℕ, leb, eqb, length}
+use Rattle.std.specs.Prelude.{◌≡◌, Bool, true, false, ◌&&◌, ◌||◌, List, [], ◌∷◌, ℕ, leb, eqb, length, Ok}
 use Rattle.std.proofs.Math.Path.{refl, ap₂, fun_ext, subst}
 use Rattle.std.proofs.Common.{ap, ◌∙◌, ⊎_elim, eqb-true}
 use Rattle.std.proofs.lemmas.Bool.{false≢true}
@@ -14,7 +14,6 @@ use Rattle.text.specs.Lines.{Lines, none, endless, line, lines}
 use Rattle.frames.specs.Frame.{bytes_of}
 use Rattle.kinds.specs.Kinds.{kind}
 use Rattle.line_readers.specs.Walks.{Going, goes, refused}
-use Rattle.reader.specs.declared.Reading.TheVariants.{Good}
 use Rattle.reader.specs.Out.{ReadOutcome, read_outcome}
 use Rattle.day_split.specs.Split.{sheet_lines, tape_part}
 use Rattle.tape_frames.specs.Frame.{ASK}
@@ -87,7 +86,7 @@ module _ (d : Day) (good : GoodOrder (sheet_of_day d)) (nl : NoLoop (sheet_of_da
       let h₂ = and_right (leb (length input) INPUT_BYTES && read_found d) _ h in
       (and_left (leb (length input) INPUT_BYTES) _ h₁, and_right (leb (length input) INPUT_BYTES) _ h₁, and_left (heard_to (heard d) d.last) _ h₂, and_right (heard_to (heard d) d.last) _ h₂)
 
-  pub opens_read : sheet_reading input ≡ read_outcome (Good d.read) (padded PERIODIC_TABLE d.periodics) (padded TRIGGER_TABLE d.triggers)
+  pub opens_read : sheet_reading input ≡ read_outcome (Ok d.read) (padded PERIODIC_TABLE d.periodics) (padded TRIGGER_TABLE d.triggers)
   opens_read = reads_to d good nl parts.1
 
   -- the tape was read to its end

@@ -1,6 +1,6 @@
 -- The sheet of a day's input: where its lines are read to what is expected and it has no loop, that is what the reading gives.
 -- Assumes nothing.
-use Rattle.std.specs.Prelude.{◌≡◌, refl, Bool, true, ◌&&◌, List, [], ◌∷◌, ℕ, eqb, length}
+use Rattle.std.specs.Prelude.{◌≡◌, refl, Bool, true, ◌&&◌, List, [], ◌∷◌, ℕ, eqb, length, Ok}
 use Rattle.std.proofs.Common.{◌∙◌, eqb-true}
 use Rattle.std.proofs.lemmas.Bool.{false≢true}
 use Rattle.theory.specs.Sheet.{GoodOrder}
@@ -13,7 +13,6 @@ use Rattle.tables.specs.Layout.{PERIODIC_TABLE, TRIGGER_TABLE, padded}
 use Rattle.tables.specs.Lent.{rules, sheet_in}
 use Rattle.text.specs.Lines.{lines}
 use Rattle.tables.specs.declared.Counts.{Counts}
-use Rattle.reader.specs.declared.Reading.TheVariants.{Good}
 use Rattle.sheet_acts.specs.Acts.{Progress}
 use Rattle.line_readers.specs.Walks.{Going, goes, refused}
 use Rattle.reader.specs.Lines.{reads}
@@ -59,15 +58,15 @@ read_to_lem (refused f) r p t h = absurd (false≢true h)
 
 -- a state without a loop is handed out
 loopless : (s : Progress) (p t : List ℕ) (r : Counts) (p' t' : List ℕ) → loop_place (sheet_in (rules r p' t')) ≡ PAIRS
-    → s.seen.counts ≡ r → s.tables.periodics ≡ p' → s.tables.triggers ≡ t' → out_by_loop (loop_place (sheet_read s)) s p t ≡ read_outcome (Good r) p' t'
+    → s.seen.counts ≡ r → s.tables.periodics ≡ p' → s.tables.triggers ≡ t' → out_by_loop (loop_place (sheet_read s)) s p t ≡ read_outcome (Ok r) p' t'
 unfolding out_by_loop
 loopless s p t r p' t' k h x y =
     let z : loop_place (sheet_read s) ≡ PAIRS = (λ i. loop_place (sheet_in (rules (h i) (x i) (y i)))) ∙ k in
-    rw z (λ i. read_outcome (Good (h i)) (x i) (y i))
+    rw z (λ i. read_outcome (Ok (h i)) (x i) (y i))
 
 -- THE LAW
 pub reads_to : (d : Day) → GoodOrder (sheet_of_day d) → NoLoop (sheet_of_day d) → read_found d ≡ true
-    → sheet_reading (text d.input) ≡ read_outcome (Good d.read) (padded PERIODIC_TABLE d.periodics) (padded TRIGGER_TABLE d.triggers)
+    → sheet_reading (text d.input) ≡ read_outcome (Ok d.read) (padded PERIODIC_TABLE d.periodics) (padded TRIGGER_TABLE d.triggers)
 unfolding read_found reading by_lines
 reads_to d good nl h =
     let sheet : List ℕ = sheet_part (text d.input) in

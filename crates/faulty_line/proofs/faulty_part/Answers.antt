@@ -16,12 +16,12 @@ returns-then-r-eq0 c =
     let a = c.args in
     c.end_of-then-r-eq0.ensures ∙ no_place a.sheet.now a.tape.now a.r (held c.has_line.ensures c.if-not-has_line.false-raw) c.if-r-eq0.true
 
-pub returns-in-At : goal.returns-in-At
-returns-in-At c =
+pub returns-in-Ok : goal.returns-in-Ok
+returns-in-Ok c =
     let a = c.args in
-    ap (in_sheet a.tape.now) (sym c.in-At.is ∙ c.seek-s.ensures) ∙ at_place a.sheet.now a.tape.now a.r (held c.has_line.ensures c.if-not-has_line.false-raw) c.if-r-eq0.false
+    ap (in_sheet a.tape.now) (sym c.in-Ok.is ∙ c.seek-s.ensures) ∙ at_place a.sheet.now a.tape.now a.r (held c.has_line.ensures c.if-not-has_line.false-raw) c.if-r-eq0.false
 
-pub returns-in-Past : goal.returns-in-Past
-returns-in-Past c =
+pub returns-in-Err : goal.returns-in-Err
+returns-in-Err c =
     let a = c.args in
-    c.in_tape.ensures ∙ (ap (in_sheet a.tape.now) (sym c.in-Past.is ∙ c.seek-s.ensures) ∙ at_place a.sheet.now a.tape.now a.r (held c.has_line.ensures c.if-not-has_line.false-raw) c.if-r-eq0.false)
+    c.in_tape.ensures ∙ (ap (in_sheet a.tape.now) (sym c.in-Err.is ∙ c.seek-s.ensures) ∙ at_place a.sheet.now a.tape.now a.r (held c.has_line.ensures c.if-not-has_line.false-raw) c.if-r-eq0.false)

@@ -1,10 +1,9 @@
 -- The column of a refused line says what document 02 says of it.
 -- Assumes nothing.
-use Rattle.std.specs.Prelude.{◌≡◌, refl, List, [], ◌∷◌, ℕ, ◌-◌, ◌≤◌}
+use Rattle.std.specs.Prelude.{◌≡◌, refl, List, [], ◌∷◌, ℕ, ◌-◌, ◌≤◌, Err}
 use Rattle.std.proofs.Common.{sym, ap, ◌∙◌, subst, arith}
 use Rattle.std.proofs.Math.ListN.{get_or-append}
 use Rattle.answers.specs.declared.Name.{Name}
-use Rattle.answers.specs.declared.Verdict.TheVariants.{Refused}
 use Rattle.answers.specs.Answers.{refusal, in_column}
 use Rattle.frames.specs.Frame.{bytes_of}
 use Rattle.line_readers.specs.Column.{column_of, in_line, located}
@@ -23,7 +22,7 @@ use Rattle.line_by_line.proofs.Laws.Tests.{judge_same}
 line_column : (fs : List (List ℕ)) (l : List ℕ) (name : Name) (k : ℕ) → FirstFails order name fs l → InLine (FieldColumn (role_count fs) (bytes_of l)) l k (in_line l (bad_field fs l) (refusal name k))
 unfolding located
 line_column fs l name k x =
-    let e : judge_line k (said fs).seen l ≡ Refused (in_line l (bad_field fs l) (refusal name k)) =
+    let e : judge_line k (said fs).seen l ≡ Err (in_line l (bad_field fs l) (refusal name k)) =
     judge_same fs l k ∙ ap (located l (bad_field fs l)) (judged_fail fs l order name k x) in
     judged_in_line k (said fs).seen l _ e
 

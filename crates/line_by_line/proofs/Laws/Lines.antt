@@ -17,8 +17,7 @@ use borrow.Author.Tests.{eqb-true, eqb-false}
 use Rattle.theory.proofs.Laws.Tests.{test}
 use Rattle.answers.specs.declared.Name.{Name}
 use Rattle.answers.specs.declared.Name.TheVariants.{Frame, Kind}
-use Rattle.answers.specs.declared.Verdict.{Verdict}
-use Rattle.answers.specs.Answers.{refusal, in_column}
+use Rattle.answers.specs.Answers.{refusal, in_column, Verdict}
 use Rattle.text.specs.Lines.{Lines, none, endless, line, lines}
 use Rattle.text.specs.Framed.{frame_column}
 use Rattle.frames.specs.Frame.{bytes_of}

@@ -4,19 +4,17 @@ use Rattle.std.specs.Prelude.{◌≡◌, refl, ◌⊎◌, true, false, cond, Lis
 use Rattle.std.proofs.Common.{ap, inl, inr, ⊎_elim}
 use Rattle.theory.proofs.Laws.Tests.{and_left, and_right, and_both, test}
 use Rattle.answers.specs.declared.Name.{Name}
-use Rattle.answers.specs.declared.Verdict.{Verdict}
-use Rattle.answers.specs.declared.Verdict.TheVariants.{Pass}
-use Rattle.answers.specs.Answers.{refuse}
+use Rattle.answers.specs.Answers.{refuse, Verdict, pass}
 use Rattle.line_by_line.specs.Tests.{passes, all_pass, FirstFails}
 
 module _ (before : List (List ℕ)) (l : List ℕ) where
   -- the verdict of these tests: the first that fails gives its refusal
   abbrev pub judged : List Name → ℕ → Verdict
-  judged [] place = Pass
+  judged [] place = pass
   judged (n ∷ ns) place = cond (passes n before l) (judged ns place) (refuse n place)
 
   -- where all pass, it is a pass
-  pub judged_pass : (ns : List Name) (place : ℕ) → all_pass ns before l ≡ true → judged ns place ≡ Pass
+  pub judged_pass : (ns : List Name) (place : ℕ) → all_pass ns before l ≡ true → judged ns place ≡ pass
   judged_pass [] place h = refl
   judged_pass (n ∷ ns) place h =
       rw (and_left (passes n before l) (all_pass ns before l) h)

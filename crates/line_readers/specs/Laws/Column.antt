@@ -1,6 +1,6 @@
 -- Laws of the column of a line's refusal: a pass has none, which test gave it, and that it lies in the line or one past its end. And of lines in order: a refusal is at one of them, or after the last.
 -- Assumes nothing.
-use Rattle.std.specs.Prelude.{◌≡◌, ◌⊎◌, true, false, ltb, leb, eqb, length, get_or}
+use Rattle.std.specs.Prelude.{◌≡◌, ◌⊎◌, true, false, ltb, leb, eqb, length, get_or, Err, Ok}
 use Rattle.std.proofs.Math.Path.{refl}
 use Rattle.std.proofs.Common.{sym, ◌∙◌, subst, ⊎_elim, arith, ltb-false, leb-true, le-leb, le-ltb, eqb-true}
 use Rattle.std.proofs.Math.Logic.{inl, inr, by_cases}
@@ -12,9 +12,7 @@ use Rattle.theory.proofs.Laws.Tests.{test, not_both}
 use Rattle.answers.specs.declared.Name.{Name}
 use Rattle.answers.specs.declared.Name.TheVariants.{Length, Frame, Check, Kind, Field, TooMany, Count, Loop, Request, Last}
 use Rattle.answers.specs.declared.Refusal.{Refusal}
-use Rattle.answers.specs.declared.Verdict.{Verdict}
-use Rattle.answers.specs.declared.Verdict.TheVariants.{Pass, Refused}
-use Rattle.answers.specs.Answers.{refusal}
+use Rattle.answers.specs.Answers.{refusal, Verdict, pass}
 use Rattle.answers.proofs.Laws.{no_pass, refused_same}
 use Rattle.text.specs.Lines.{Lines, none, endless, line, all_lines}
 use Rattle.text.specs.Framed.{is_digit, first_bad, all_digits, framed, frame_column}
@@ -29,15 +27,15 @@ use Rattle.line_readers.specs.Laws.Walks.{same_refusal, walks_refused}
 -- ---- a verdict, and the same with its column
 
 module _ (l : List ℕ) (field : ℕ) where
-  pub located_pass : (v : Verdict) → located l field v ≡ Pass → v ≡ Pass
+  pub located_pass : (v : Verdict) → located l field v ≡ pass → v ≡ pass
   unfolding located
-  located_pass Pass e = refl
-  located_pass (Refused r) e = no_pass _ e
+  located_pass (Ok tt) e = refl
+  located_pass (Err r) e = no_pass _ e
 
-  pub located_refused : (v : Verdict) (r : Refusal) → located l field v ≡ Refused r → (x : Refusal) × (v ≡ Refused x) × (in_line l field x ≡ r)
+  pub located_refused : (v : Verdict) (r : Refusal) → located l field v ≡ Err r → (x : Refusal) × (v ≡ Err x) × (in_line l field x ≡ r)
   unfolding located
-  located_refused Pass r e = no_pass r (sym e)
-  located_refused (Refused x) r e = (x, refl, refused_same (in_line l field x) r e)
+  located_refused (Ok tt) r e = no_pass r (sym e)
+  located_refused (Err x) r e = (x, refl, refused_same (in_line l field x) r e)
 
 -- ---- which test refuses
 
@@ -49,7 +47,7 @@ pub data Refuses (t : Tests) (name : Name) (place : ℕ) (x : Refusal) : Type 0 
   at_field : t.framed ≡ true → t.kind ≡ true → t.field ≡ false → x ≡ refusal Field place → Refuses t name place x
   at_last : x ≡ refusal name place → Refuses t name place x
 
-pub order_refuses : (t : Tests) (name : Name) (place : ℕ) (x : Refusal) → in_order t name place ≡ Refused x → Refuses t name place x
+pub order_refuses : (t : Tests) (name : Name) (place : ℕ) (x : Refusal) → in_order t name place ≡ Err x → Refuses t name place x
 unfolding in_order
 order_refuses t name place x e =
     ⊎_elim
@@ -141,7 +139,7 @@ module _ (Bad : ℕ → Type 0) (l : List ℕ) (field : ℕ) (t : Tests) (name :
   column_within x (at_field f k d e) = rw e (record { at_place = refl; says = (field_in f k d).0; within = (field_in f k d).1 })
   column_within x (at_last e) = rw e (record { at_place = refl; says = last_none; within = last-in })
 
-  pub judged_within : (r : Refusal) → located l field (in_order t name place) ≡ Refused r → InLine Bad l place r
+  pub judged_within : (r : Refusal) → located l field (in_order t name place) ≡ Err r → InLine Bad l place r
   judged_within r e =
       let y = located_refused l field (in_order t name place) r e in
       subst (InLine Bad l place) y.2 (column_within y.0 (order_refuses t name place y.0 y.1))

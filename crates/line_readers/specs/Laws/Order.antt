@@ -2,10 +2,10 @@
 -- Assumes nothing.
 use Rattle.std.specs.Prelude.{◌≡◌, true, ℕ}
 use Rattle.answers.specs.declared.Name.{Name}
-use Rattle.answers.specs.declared.Verdict.TheVariants.{Pass}
 use Rattle.answers.proofs.Laws.{cond_pass}
 use Rattle.line_readers.specs.declared.Tests.{Tests}
 use Rattle.line_readers.specs.Order.{in_order}
+use Rattle.answers.specs.Answers.{pass}
 
 pub record EachPasses (t : Tests) : Type 0 where
   pub framed : t.framed ≡ true
@@ -15,7 +15,7 @@ pub record EachPasses (t : Tests) : Type 0 where
   pub field : t.field ≡ true
   pub last : t.last ≡ true
 
-pub each_passes : (t : Tests) (name : Name) (place : ℕ) → in_order t name place ≡ Pass → EachPasses t
+pub each_passes : (t : Tests) (name : Name) (place : ℕ) → in_order t name place ≡ pass → EachPasses t
 unfolding in_order
 each_passes t name place e =
     let a = cond_pass t.framed _ _ _ e in

@@ -1,17 +1,15 @@
 -- Laws of the lines in order: what it says that they go on to their end, and one turn of a loop over them, with the cursor at the start of a line. What is left of the text from the cursor on is `drop at text`.
 -- Assumes nothing.
-use Rattle.std.specs.Prelude.{◌≡◌, ℕ, ◌+◌, ◌-◌, ◌≤◌, ◌<◌, length}
+use Rattle.std.specs.Prelude.{◌≡◌, ℕ, ◌+◌, ◌-◌, ◌≤◌, ◌<◌, length, Some, None, Ok, Err}
 use Rattle.std.proofs.Math.Path.{refl, sym}
 use Rattle.std.proofs.Common.{ap, ◌∙◌, arith, drop_of_length-le, take_all}
 use mathlib.Core.List.{List}
 use Rattle.std.proofs.Math.ListN.{take, drop, length-drop}
 use Rattle.answers.specs.declared.Name.TheVariants.{Frame}
 use Rattle.answers.specs.declared.Refusal.{Refusal}
-use Rattle.answers.specs.declared.Verdict.{Verdict}
-use Rattle.answers.specs.declared.Verdict.TheVariants.{Pass, Refused}
-use Rattle.answers.specs.Answers.{refusal}
-use Rattle.text.specs.Lines.{Lines, none, endless, line, lines, span}
-use Rattle.text.specs.Laws.Lines.{line_here, endless_here}
+use Rattle.answers.specs.Answers.{refusal, Verdict, pass}
+use Rattle.text.specs.Lines.{Lines, none, endless, line, lines, first_ended, span}
+use Rattle.text.specs.Laws.Lines.{line_here, endless_here, first_line, last_line}
 use Rattle.line_readers.specs.Column.{in_line}
 use Rattle.line_readers.specs.Walks.{Going, goes, refused, by_verdict, Reader, walks}
 
@@ -24,16 +22,16 @@ pub same_refusal : {A : Type 0} {a b : Refusal} → ◌≡◌ {A = Going A} (ref
 same_refusal e = cc
 
 -- what goes on passed
-pub verdict_goes : {A : Type 0} (v : Verdict) (made n : A) → by_verdict v made ≡ goes n → (v ≡ Pass) × (made ≡ n)
+pub verdict_goes : {A : Type 0} (v : Verdict) (made n : A) → by_verdict v made ≡ goes n → (v ≡ pass) × (made ≡ n)
 unfolding by_verdict
-verdict_goes Pass made n e = (refl, cc)
-verdict_goes (Refused r) made n e = no_goes r n e
+verdict_goes (Ok tt) made n e = (refl, cc)
+verdict_goes (Err r) made n e = no_goes r n e
 
 -- and what is refused was
-pub verdict_stops : {A : Type 0} (v : Verdict) (made : A) (r : Refusal) → by_verdict v made ≡ refused r → v ≡ Refused r
+pub verdict_stops : {A : Type 0} (v : Verdict) (made : A) (r : Refusal) → by_verdict v made ≡ refused r → v ≡ Err r
 unfolding by_verdict
-verdict_stops Pass made r e = no_goes r made (sym e)
-verdict_stops (Refused x) made r e = ap Refused (same_refusal e)
+verdict_stops (Ok tt) made r e = no_goes r made (sym e)
+verdict_stops (Err x) made r e = ap Err (same_refusal e)
 
 module _ {A : Type 0} (R : Reader A) where
   -- after a refusal no line is read
@@ -79,3 +77,29 @@ module _ {A : Type 0} (R : Reader A) where
         turn_stops r g =
             sym (walks_refused r (lines (drop (e + 1) text)))
             ∙ (ap (λ (x : Going A). walks R x (lines (drop (e + 1) text))) (sym g) ∙ (sym (walks_line inside) ∙ from))
+
+    -- the same by the line that stands at the cursor, where it has its 0A
+    module _ (s : A) (whole : Going A) (from : walks R (goes s) (lines (drop at text)) ≡ whole) where
+      module _ (l : List ℕ) (is : Some l ≡ first_ended (lines (drop at text))) where
+        walks_first_line : walks R (R.takes s l) (lines (drop (at + (length l + 1)) text)) ≡ whole
+        unfolding walks
+        walks_first_line =
+            let n : at + (length l + 1) ≡ at + length l + 1 = omega arith in
+            ap (λ (k : ℕ). walks R (R.takes s l) (lines (drop k text))) n ∙ (sym (rw (first_line text at l is).0) ∙ from)
+
+        pub line_goes : (n : A) → R.takes s l ≡ goes n → walks R (goes n) (lines (drop (at + (length l + 1)) text)) ≡ whole
+        line_goes n g = ap (λ (x : Going A). walks R x (lines (drop (at + (length l + 1)) text))) (sym g) ∙ walks_first_line
+
+        pub line_stops : (r : Refusal) → R.takes s l ≡ refused r → refused r ≡ whole
+        line_stops r g = sym (walks_refused r (lines (drop (at + (length l + 1)) text))) ∙ line_goes_on r g
+          where
+            line_goes_on : (x : Refusal) → R.takes s l ≡ refused x → walks R (refused x) (lines (drop (at + (length l + 1)) text)) ≡ whole
+            line_goes_on x h = ap (λ (y : Going A). walks R y (lines (drop (at + (length l + 1)) text))) (sym h) ∙ walks_first_line
+
+      -- and where it has none
+      pub last_stops : None ≡ first_ended (lines (drop at text)) → at < length text
+          → refused (in_line (take (length text - at) (drop at text)) 0 (refusal Frame (R.read s + 1))) ≡ whole
+      unfolding walks
+      last_stops is h =
+          ap (λ (x : List ℕ). refused (in_line x 0 (refusal Frame (R.read s + 1)))) (take_all (length text - at) (drop at text) (omega (arith, length-drop at text)))
+          ∙ (sym (rw (last_line text at is h)) ∙ from)

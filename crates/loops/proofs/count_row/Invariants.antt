@@ -1,6 +1,6 @@
 -- `loops::count_row` meets its contract. The loop's invariant: the numbers below e are one more where the row reaches them, and the others are as they came.
 -- Assumes nothing.
-use Prim.Native.Nat.{◌+◌, ◌-◌, ◌≤◌}
+use Prim.Native.Nat.{◌+◌}
 use lib.ListN.{get_or}
 use Rattle.theory.specs.Below.{one}
 use Rattle.reach_row.specs.Row.{reaches}
@@ -9,8 +9,4 @@ use Rattle.loops.proofs.count_row.Given as goal
 
 abbrev pub invariant-loop-e : goal.invariant-loop-e
 invariant-loop-e l =
-    (l.e ≤ 128) × Filled 128 l.initial.counts (λ k. get_or l.initial.counts k 0 + one (reaches l.row k)) l.e l.counts
-
-abbrev pub decreases-loop-e : goal.decreases-loop-e
-decreases-loop-e l =
-    128 - l.e
+    Filled 128 l.initial.counts (λ k. get_or l.initial.counts k 0 + one (reaches l.row k)) l.e l.counts

@@ -2,23 +2,15 @@
 -- Assumes nothing.
 use mathlib.Core.Path.{◌≡◌}
 use mathlib.Core.Bool.{false}
-use Prim.Native.Nat.{ℕ, ◌+◌, ◌-◌, ◌*◌, ◌≤◌, ◌<◌}
+use Prim.Native.Nat.{ℕ, ◌+◌, ◌*◌, ◌<◌}
 use Rattle.reach_rows.specs.Rows.{edges_of}
 use Rattle.loops.specs.Tested.{cycle_at}
 use Rattle.loops.proofs.first_cycle.Given as goal
 
 abbrev pub invariant-loop-to : goal.invariant-loop-to
 invariant-loop-to l =
-    (l.from < 128) × (l.to ≤ 128) × ((k : ℕ) → k < 128 * l.from + l.to → cycle_at (edges_of l.minus) (edges_of l.reach) k ≡ false)
+    (k : ℕ) → k < 128 * l.from + l.to → cycle_at (edges_of l.minus) (edges_of l.reach) k ≡ false
 
-abbrev pub decreases-loop-to : goal.decreases-loop-to
-decreases-loop-to l =
-    128 - l.to
-
-abbrev pub invariant-search : goal.invariant-search
-invariant-search l =
-    (l.from ≤ 128) × ((k : ℕ) → k < 128 * l.from → cycle_at (edges_of l.minus) (edges_of l.reach) k ≡ false)
-
-abbrev pub decreases-search : goal.decreases-search
-decreases-search l =
-    128 - l.from
+abbrev pub invariant-loop-from : goal.invariant-loop-from
+invariant-loop-from l =
+    (k : ℕ) → k < 128 * l.from → cycle_at (edges_of l.minus) (edges_of l.reach) k ≡ false

@@ -1,6 +1,6 @@
 -- What the loop test's answer says in document 01's words, for triggers whose heads are events.
 -- Assumes nothing.
-use Rattle.std.specs.Prelude.{◌≡◌, ◌↔◌, ℕ, ◌≤◌, ◌<◌}
+use Rattle.std.specs.Prelude.{◌≡◌, ◌↔◌, ℕ, ◌≤◌, ◌<◌, None, Some}
 use Rattle.std.proofs.Common.{sym, ◌∙◌, ⊎_elim, arith}
 use Rattle.std.proofs.Math.Path.{ap}
 use Rattle.theory.specs.Numbers.{EVENTS}
@@ -12,7 +12,6 @@ use Rattle.theory.proofs.Laws.Graph.{HeadsBelow, drawn_intro, drawn_from}
 use Rattle.theory.proofs.Laws.Levels.{noloop_levels}
 use Rattle.theory.proofs.Laws.Loop.{loop_or, noloop_says, loop_says}
 use Rattle.tables.specs.Layout.{byte_at}
-use Rattle.loops.specs.declared.Found.TheVariants.{At, Nothing}
 use Rattle.loops.specs.declared.Tested.{Tested}
 use Rattle.loops.specs.Tested.{found_at, tested}
 use Rattle.loops.specs.Laws.Search.{found_past, found_pair, found_at_lem, found_nothing}
@@ -29,14 +28,14 @@ module _ (sh : Sheet) (r : Tested) (h : r ≡ tested sh) where
 
   module _ (hb : HeadsBelow sh) where
     -- a pair is found exactly where the sheet has a loop at its place
-    pub found_says : (a b : ℕ) → (r.found ≡ At a b) ↔ ((b < EVENTS) × LoopAt sh (pair_place a b))
+    pub found_says : (a b : ℕ) → (r.found ≡ Some (a, b)) ↔ ((b < EVENTS) × LoopAt sh (pair_place a b))
     found_says a b = (
       (λ f. let q = found_at_lem (loop_place sh) a b (sym found_is ∙ f) in (q.1, (loop_says sh hb (pair_place a b)).0 (omega arith, q.2))),
       (λ l. let q = (loop_says sh hb (pair_place a b)).1 l.1 in found_is ∙ ap found_at q.1 ∙ found_pair a b q.0 l.0),
     )
 
     -- nothing is found exactly where it has none
-    pub nothing_says : (r.found ≡ Nothing) ↔ NoLoop sh
+    pub nothing_says : (r.found ≡ None) ↔ NoLoop sh
     nothing_says = (
       (λ f.
           let q : PAIRS ≤ loop_place sh = found_nothing (loop_place sh) (sym found_is ∙ f) in
@@ -45,7 +44,7 @@ module _ (sh : Sheet) (r : Tested) (h : r ≡ tested sh) where
     )
 
     -- and then the levels meet the rule
-    pub levels_say : r.found ≡ Nothing → Levels sh (byte_at r.levels)
+    pub levels_say : r.found ≡ None → Levels sh (byte_at r.levels)
     levels_say f =
         let lv : Levels sh (level_of sh) = noloop_levels sh hb (nothing_says.0 f) in
         record {

@@ -1,6 +1,6 @@
 -- The parts of the test together: rows that hold what is drawn and what is reached give what the definition answers.
 -- Assumes nothing.
-use Rattle.std.specs.Prelude.{◌≡◌, Bool, true, false, ◌||◌, ℕ, ◌/◌, ◌%◌, ◌<◌}
+use Rattle.std.specs.Prelude.{◌≡◌, Bool, true, false, ◌||◌, ℕ, ◌/◌, ◌%◌, ◌<◌, Option}
 use Rattle.std.proofs.Math.Path.{ap, ap₂}
 use Rattle.std.proofs.Common.{◌∙◌}
 use Rattle.std.proofs.Math.Bool.{◌&&◌, or_comm}
@@ -18,7 +18,6 @@ use Rattle.reach_rows.specs.Rows.{edges_of, RowsAre, Become}
 use Rattle.reach_rows.specs.Laws.Rows.{rows_same, rows_say}
 use Rattle.edges.specs.Drawing.{tail_of, draws_below, added_from}
 use Rattle.edges.specs.Laws.{draws_all}
-use Rattle.loops.specs.declared.Found.{Found}
 use Rattle.loops.specs.declared.Tested.{Tested}
 use Rattle.loops.specs.Tested.{found_at, cycle_at, tabulate, tested}
 use Rattle.loops.specs.Laws.Levels.{count_same, tabulate_same}
@@ -60,9 +59,9 @@ module _ (n : ℕ) (table : List ℕ) (heads : Row) (none ms es rs : List Row) (
       (λ x y l _. ap (λ (t : Bool). minus sh x y || t) (draws_all (tail_of false) heads n table hh x y l) ∙ or_comm (minus sh x y) (plus sh x y))
       (he (minus sh) minus_are)
 
-  pub tested_is : (f : Found) (l : List ℕ) → f ≡ found_at (first_below PAIRS (cycle_at (edges_of ms) (edges_of rs))) → l ≡ tabulate EVENTS (λ e. count_below EVENTS (λ x. edges_of rs x e))
+  pub tested_is : (f : Option (ℕ × ℕ)) (l : List ℕ) → f ≡ found_at (first_below PAIRS (cycle_at (edges_of ms) (edges_of rs))) → l ≡ tabulate EVENTS (λ e. count_below EVENTS (λ x. edges_of rs x e))
       → ◌≡◌ {A = Tested} (record { found = f; levels = l }) (tested sh)
   unfolding tested
   tested_is f l p q =
       let r : RowsAre (reach sh) rs = hr (edge sh) edges_are in
-      ap₂ (λ (f : Found) (l : List ℕ). record { found = f; levels = l }) (p ∙ found_is sh ms rs minus_are r) (q ∙ levels_are sh ms rs minus_are r)
+      ap₂ (λ (f : Option (ℕ × ℕ)) (l : List ℕ). record { found = f; levels = l }) (p ∙ found_is sh ms rs minus_are r) (q ∙ levels_are sh ms rs minus_are r)

@@ -11,7 +11,7 @@ unfolding with_priority
 returns-then-p-lt-PRIORITIES c =
     let l = c.if-p-lt-PRIORITIES.true in rw (lt-ltb _ _ l, shl_one 16 _ l) refl
 
-pub returns : goal.returns
+pub returns-else-p-lt-PRIORITIES : goal.returns-else-p-lt-PRIORITIES
 unfolding with_priority
-returns c =
+returns-else-p-lt-PRIORITIES c =
     rw (le-ltb _ _ c.if-p-lt-PRIORITIES.false) refl

@@ -1,20 +1,15 @@
--- `prints::total` meets its contract. The loop's invariant: t and the sum of the bytes from i on make the whole sum, less multiples of 256.
+-- `prints::total` meets its contract. The loop's invariant: the sum so far and that of the bytes from the index on make the whole sum, less multiples of 256.
 -- Assumes nothing.
+use Rattle.std.proofs.Common.{arith}
 use Rattle.frames.specs.Laws.Frame.{sum_more, sum_end}
-use borrow.Author.Rules.{rules}
-use native.Mathlib.Omega.{arith}
 use Rattle.prints.proofs.total.Goals as goal
 
-pub overflow_add-t : goal.overflow_add-t
-overflow_add-t c =
-    omega (arith, c.wide.ensures, (c.shared_slice_known-in-loop-i-1.given c.loop-i.i).fits)
-
-pub loop-i-preserved : goal.loop-i-preserved
-loop-i-preserved c =
-    let g = sum_more c.args.frame.now c.loop-i.i (search rules) in
-    omega (arith, c.wide.ensures, (c.shared_slice_known-in-loop-i-1.given c.loop-i.i).fits)
+pub loop-b-preserved : goal.loop-b-preserved
+loop-b-preserved c =
+    let g = sum_more c.args.frame.now c.loop-b.b-index c.loop-b-test.true in
+    omega arith
 
 pub returns : goal.returns
 returns c =
-    let g = sum_end c.args.frame.now c.loop-i.i (search rules) in
+    let g = sum_end c.args.frame.now c.loop-b.b-index c.loop-b-test.false in
     omega arith

@@ -4,14 +4,10 @@ use Rattle.reach.specs.Laws.{through_end}
 use borrow.Author.Rules.{rules}
 use Rattle.reach.proofs.closed.Goals as goal
 
-pub loop-k-init : goal.loop-k-init
-loop-k-init c =
-    (search rules, λ E h. c.own.ensures E h)
-
 pub loop-k-preserved : goal.loop-k-preserved
 loop-k-preserved c =
-    let d = c.loop-k in (search rules, λ E h. c.go_through.ensures E h (d.invariant.1 E h))
+    let d = c.loop-k in λ E h. c.go_through.ensures E h (d.invariant E h)
 
 pub returns : goal.returns
 returns c =
-    let d = c.loop-k in λ E h. through_end E _ d.k (search rules) (search rules) (d.invariant.1 E h)
+    let d = c.loop-k in λ E h. through_end E _ d.k (search rules) (search rules) (d.invariant E h)

@@ -1,20 +1,16 @@
 -- `reach::own` meets its contract. The loop's invariant: the events below a reach themselves.
 -- Assumes nothing.
 use lib.Dec.{eqb}
-use Rattle.reach.specs.Laws.{so_far, far_none, own_next, own_end}
+use Rattle.reach.specs.Laws.{so_far, own_next, own_end}
 use borrow.Author.Rules.{rules}
 use Rattle.reach.proofs.own.Goals as goal
-
-pub loop-a-init : goal.loop-a-init
-loop-a-init c =
-    (search rules, λ E h. far_none E eqb _ h)
 
 pub loop-a-preserved : goal.loop-a-preserved
 loop-a-preserved c =
     let d = c.loop-a in
-    (search rules, λ E h. own_next E _ d.a (c.link.ensures (so_far eqb d.a E) (d.invariant.1 E h)))
+    λ E h. own_next E _ d.a (c.link.ensures (so_far eqb d.a E) (d.invariant E h))
 
 pub returns : goal.returns
 returns c =
     let d = c.loop-a in
-    λ E h. own_end E _ d.a (search rules) (d.invariant.1 E h)
+    λ E h. own_end E _ d.a (search rules) (d.invariant E h)

@@ -16,7 +16,7 @@ returns-then-leads c =
     i j _
     c.index-i.ensures
     c.index-j.ensures
-    (c.joined-z.ensures (E i) (E j) (h.each i (search rules)) (h.each j (search rules)))
+    (c.joined.ensures (E i) (E j) (h.each i (search rules)) (h.each j (search rules)))
 
 pub returns-else-leads : goal.returns-else-leads
 returns-else-leads c =

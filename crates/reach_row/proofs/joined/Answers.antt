@@ -6,13 +6,13 @@ use Rattle.reach_row.proofs.joined.Goals as goal
 
 pub loop-b-init : goal.loop-b-init
 loop-b-init c =
-    (search rules, λ f g h k. joined_none f g _ h)
+    λ f g h k. joined_none f g _ h
 
 pub loop-b-preserved : goal.loop-b-preserved
 loop-b-preserved c =
     let d = c.loop-b in
-    (search rules, λ f g h k. joined_next f g d.r _ d.b (search rules) k (d.invariant.1 f g h k))
+    λ f g h k. joined_next f g d.r _ d.b (search rules) k (d.invariant f g h k)
 
 pub returns : goal.returns
 returns c =
-    λ f g h k. joined_end f g _ c.loop-b.b (search rules) (c.loop-b.invariant.1 f g h k)
+    λ f g h k. joined_end f g _ c.loop-b.b (search rules) (c.loop-b.invariant f g h k)

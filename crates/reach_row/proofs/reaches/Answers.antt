@@ -11,7 +11,7 @@ unfolding reaches
 returns-then-b-lt-EVENTS c =
     rw (lt-ltb _ EVENTS c.if-b-lt-EVENTS.true, c.index.ensures) refl
 
-pub returns : goal.returns
+pub returns-else-b-lt-EVENTS : goal.returns-else-b-lt-EVENTS
 unfolding reaches
-returns c =
+returns-else-b-lt-EVENTS c =
     rw (le-ltb _ EVENTS c.if-b-lt-EVENTS.false) refl

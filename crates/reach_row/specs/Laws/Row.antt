@@ -1,6 +1,7 @@
 -- Laws of one row. Of all laws these alone look inside a row.
 -- Assumes nothing.
-use Rattle.std.specs.Prelude.{◌≡◌, Bool, true, false, ◌&&◌, ◌||◌, ℕ, ◌+◌, ◌≤◌, ◌<◌, eqb, ltb, get_or, set, replicate}
+use Rattle.std.specs.Prelude.{◌≡◌, Bool, true, false, ◌&&◌, ◌||◌, ℕ, zero, suc, ◌+◌, ◌≤◌, ◌<◌, eqb, ltb, get_or, set, replicate, take}
+use Rattle.std.specs.List.{list_any}
 use Rattle.std.proofs.Math.Path.{refl}
 use Rattle.std.proofs.Common.{sym, ap, ap₂, ◌∙◌, add-one, arith, length-set, get_or-set_same, get_or-set_other, lt-ltb, eq-eqb, ne_eqb}
 use Rattle.std.proofs.Math.Logic.{by_cases}
@@ -8,11 +9,13 @@ use Rattle.std.proofs.Math.Bool.{and-true, and-false, or-true, or_comm}
 use Rattle.std.proofs.lemmas.Bool.{false≢true}
 use Rattle.std.proofs.Math.Decide.{ℕ_discrete}
 use Rattle.std.proofs.lemmas.List.{length-replicate, get_or-replicate}
+use Rattle.std.proofs.lemmas.List.Folds.{list_any_more}
+use Rattle.std.proofs.Math.Seq.{take-length}
 use Rattle.theory.specs.Numbers.{EVENTS}
 use Rattle.theory.specs.Below.{any_below}
 use Rattle.theory.proofs.Laws.Below.{any_intro}
 use Rattle.theory.proofs.Laws.Tests.{is_false, same_or}
-use Rattle.reach_row.specs.Row.{Row, reaches, RowIs}
+use Rattle.reach_row.specs.Row.{Row, whole, reaches, RowIs}
 use Rattle.reach_row.specs.Laws.Changes.{past_event, not_yet, one_more, all_made}
 
 -- a row holds what is the same among the events
@@ -85,6 +88,20 @@ module _ (row : Row) where
 
   pub some_end : (b : ℕ) (any : Bool) → b ≤ EVENTS → EVENTS ≤ b → any ≡ any_below b (reaches row) → any ≡ any_below EVENTS (reaches row)
   some_end b any l m h = let e : b ≡ EVENTS = omega arith in rw e at h
+
+  -- its first n truth values hold a true one where an event below n is reached, and so do all
+  some_taken : (test : Bool → Bool) → ((t : Bool) → test t ≡ t) → whole row → (n : ℕ) → n ≤ EVENTS → list_any test (take n row) ≡ any_below n (reaches row)
+  unfolding any_below
+  some_taken test e w zero l = refl
+  some_taken test e w (suc n) l =
+      let h = list_any_more test row n false (omega (arith, w)) in
+      let m : n < EVENTS = omega arith in
+      (rw add-one at h) ∙ ap₂ ◌||◌ (some_taken test e w n (omega arith)) (e (get_or row n false) ∙ sym (row_at row n m)) ∙ or_comm (any_below n (reaches row)) (reaches row n)
+
+  pub some_truth : (test : Bool → Bool) → ((t : Bool) → test t ≡ t) → whole row → list_any test row ≡ any_below EVENTS (reaches row)
+  some_truth test e w =
+      let t = ap (λ (n : ℕ). take n row) (sym w) ∙ take-length row in
+      ap (list_any test) (sym t) ∙ some_taken test e w EVENTS (omega arith)
 
   -- a row without one
   pub none_reached : any_below EVENTS (reaches row) ≡ false → (b : ℕ) → b < EVENTS → reaches row b ≡ false

@@ -1,18 +1,16 @@
 -- What the code hands back of a line or of all of them, as the definitions say it.
 -- Assumes nothing.
-use Rattle.std.specs.Prelude.{◌≡◌, List, ℕ}
+use Rattle.std.specs.Prelude.{◌≡◌, List, ℕ, Err, Ok, Result}
 use Rattle.std.proofs.Common.{sym, ap, ◌∙◌}
 use Rattle.answers.specs.declared.Refusal.{Refusal}
 use Rattle.sheet_tests.specs.declared.Seen.{Seen}
 use Rattle.sheet_acts.specs.Acts.{Progress, progress}
-use Rattle.reader.specs.declared.Taken.{Taken}
-use Rattle.reader.specs.declared.Taken.TheVariants.{Goes, Refused}
 use Rattle.line_readers.specs.Walks.{Going, goes, refused}
 use Rattle.reader.specs.Took.{took}
 
 -- what the lines made, by what came back
-pub went : (w : Taken) (p t : List ℕ) (x : Going Progress) (s : Seen) → took w p t ≡ x → w ≡ Goes s → goes (progress s p t) ≡ x
-went w p t x s e h = sym (ap (λ (v : Taken). took v p t) h) ∙ e
+pub went : (w : Result Seen Refusal) (p t : List ℕ) (x : Going Progress) (s : Seen) → took w p t ≡ x → w ≡ Ok s → goes (progress s p t) ≡ x
+went w p t x s e h = sym (ap (λ (v : Result Seen Refusal). took v p t) h) ∙ e
 
-pub stopped : (w : Taken) (p t : List ℕ) (x : Going Progress) (r : Refusal) → took w p t ≡ x → w ≡ Refused r → refused r ≡ x
-stopped w p t x r e h = sym (ap (λ (v : Taken). took v p t) h) ∙ e
+pub stopped : (w : Result Seen Refusal) (p t : List ℕ) (x : Going Progress) (r : Refusal) → took w p t ≡ x → w ≡ Err r → refused r ≡ x
+stopped w p t x r e h = sym (ap (λ (v : Result Seen Refusal). took v p t) h) ∙ e

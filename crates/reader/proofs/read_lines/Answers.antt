@@ -2,50 +2,42 @@
 -- A line is at least one byte, so there are no more lines than bytes. The measure is what is left of the sheet.
 -- Assumes nothing.
 use mathlib.Core.Path.{sym, ap, ◌∙◌}
-use Prim.Native.Nat.{◌<◌}
-use lib.ListN.{length}
-use Rattle.text.specs.Laws.Lines.{end_le}
+use Rattle.std.specs.Prelude.{Result, option_copied}
+use Rattle.answers.specs.declared.Refusal.{Refusal}
+use Rattle.answers.proofs.Laws.{handed_on}
+use Rattle.text.specs.Laws.Lines.{first_line}
+use Rattle.sheet_tests.specs.declared.Seen.{Seen}
 use Rattle.sheet_acts.specs.Acts.{progress}
 use Rattle.line_readers.specs.Walks.{refused}
+use Rattle.line_readers.specs.Laws.Walks.{walks_none, line_goes, line_stops, last_stops}
 use Rattle.reader.specs.Lines.{sheet_reader}
-use Rattle.line_readers.specs.Laws.Walks.{walks_endless, walks_none, turn_goes, turn_stops}
+use Rattle.reader.specs.Took.{took}
 use Rattle.reader.proofs.Laws.Lines.{line_next}
 use Rattle.reader.proofs.Laws.Took.{went, stopped}
 use borrow.Author.Rules.{rules}
 use native.Mathlib.Omega.{arith}
 use Rattle.reader.proofs.read_lines.Goals as goal
 
-pub returns-then-e-sheet : goal.returns-then-e-sheet
-returns-then-e-sheet c =
-    ap refused (rw c.refusal_of-r.ensures at c.in_line.ensures)
-    ∙ (sym (walks_endless sheet_reader _ _ _ c.line_end-e.ensures _ c.loop-at-test.true c.if-e-sheet.true) ∙ c.loop-at.invariant.1.1)
-
-pub slice_bounds-take-end : goal.slice_bounds-take-end
-slice_bounds-take-end c =
-    let g = end_le c.args.sheet.now c.loop-at.at c.line_end-e.result c.line_end-e.ensures c.loop-at.invariant.0.0 in
-    search rules
-
-pub overflow_add-at : goal.overflow_add-at
-overflow_add-at c =
-    let g = end_le c.args.sheet.now c.loop-at.at c.line_end-e.result c.line_end-e.ensures c.loop-at.invariant.0.0 in
-    search rules
-
-pub loop-at-preserved : goal.loop-at-preserved
-loop-at-preserved c =
-    let h = end_le c.args.sheet.now c.loop-at.at c.line_end-e.result c.line_end-e.ensures c.loop-at.invariant.0.0 in
-    let i : c.line_end-e.result < length c.args.sheet.now = omega (arith, c.if-e-sheet.false) in
-    let w = sym (went _ _ _ _ _ c.take-w.ensures c.in-Goes.is) in
+pub loop-line-preserved : goal.loop-line-preserved
+loop-line-preserved c =
+    let is = sym (ap option_copied c.in-Some.is) ∙ c.line_at.ensures in
+    let l = first_line c.args.sheet.now c.loop-line.at _ is in
+    let w = sym (went _ _ _ _ _ c.take.ensures c.in_ok-s.was) in
     let n = line_next _ _ _ w in
-    let g = turn_goes sheet_reader _ _ _ c.line_end-e.ensures _ i _ c.loop-at.invariant.1.1 _ w in
-    ((search rules, omega (arith, n, c.line_end-e.ensures, c.loop-at.invariant.0.1)), ((search rules, search rules), g))
+    ((omega (arith, l.1), omega (arith, n, c.loop-line.invariant.0.1)), line_goes sheet_reader c.args.sheet.now c.loop-line.at _ _ c.loop-line.invariant.1 _ is _ w)
 
-pub returns-in-Refused : goal.returns-in-Refused
-returns-in-Refused c =
-    let h = end_le c.args.sheet.now c.loop-at.at c.line_end-e.result c.line_end-e.ensures c.loop-at.invariant.0.0 in
-    let i : c.line_end-e.result < length c.args.sheet.now = omega (arith, c.if-e-sheet.false) in
-    turn_stops sheet_reader _ _ _ c.line_end-e.ensures _ i _ c.loop-at.invariant.1.1 _ (sym (stopped _ _ _ _ _ c.take-w.ensures c.in-Refused.is))
+pub returns-in_err-s : goal.returns-in_err-s
+returns-in_err-s c =
+    let is = sym (ap option_copied c.in-Some.is) ∙ c.line_at.ensures in
+    ap (λ (r : Result Seen Refusal). took r c.take.new.periodics c.take.new.triggers) (handed_on _ _ c.from_residual.ensures.1)
+    ∙ line_stops sheet_reader c.args.sheet.now c.loop-line.at _ _ c.loop-line.invariant.1 _ is _ (sym (stopped _ _ _ _ _ c.take.ensures c.in_err-s.was))
+
+pub returns-then-at-sheet : goal.returns-then-at-sheet
+returns-then-at-sheet c =
+    ap refused (rw c.refusal_of-r.ensures at c.in_line.ensures)
+    ∙ last_stops sheet_reader c.args.sheet.now c.loop-line.at _ _ c.loop-line.invariant.1 (sym (ap option_copied c.in_default.is) ∙ c.line_at.ensures) c.if-at-sheet.true
 
 pub returns : goal.returns
 returns c =
     c.at_end.ensures _ _
-    ∙ (sym (walks_none sheet_reader c.args.sheet.now c.loop-at.at (progress c.loop-at.s c.loop-at.periodics c.loop-at.triggers) (search rules)) ∙ c.loop-at.invariant.1.1)
+    ∙ (sym (walks_none sheet_reader c.args.sheet.now c.loop-line.at (progress c.loop-line.s c.loop-line.periodics c.loop-line.triggers) (search rules)) ∙ c.loop-line.invariant.1)

@@ -10,12 +10,11 @@ use Rattle.line_readers.specs.Walks.{goes}
 use Rattle.reader.specs.Lines.{reads, fresh}
 use Rattle.reader.proofs.read_lines.Given as goal
 
-abbrev pub invariant-loop-at : goal.invariant-loop-at
-invariant-loop-at l =
+abbrev pub invariant-loop-line : goal.invariant-loop-line
+invariant-loop-line l =
     ((l.at ≤ length l.sheet) × (l.s.line ≤ l.at))
-    × (((length l.periodics ≡ length l.initial.periodics) × (length l.triggers ≡ length l.initial.triggers))
-    × (reads (goes (progress l.s l.periodics l.triggers)) (lines (drop l.at l.sheet)) ≡ reads (goes (progress fresh l.initial.periodics l.initial.triggers)) (lines l.sheet)))
+    × (reads (goes (progress l.s l.periodics l.triggers)) (lines (drop l.at l.sheet)) ≡ reads (goes (progress fresh l.initial.periodics l.initial.triggers)) (lines l.sheet))
 
-abbrev pub decreases-loop-at : goal.decreases-loop-at
-decreases-loop-at l =
+abbrev pub decreases-loop-line : goal.decreases-loop-line
+decreases-loop-line l =
     length l.sheet - l.at

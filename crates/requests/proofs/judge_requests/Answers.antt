@@ -11,7 +11,7 @@ use Rattle.requests.proofs.judge_requests.Goals as goal
 
 pub loop-k-init : goal.loop-k-init
 loop-k-init c =
-    (search rules, search_none _)
+    search_none _
 
 pub returns-then-not-request_fits : goal.returns-then-not-request_fits
 returns-then-not-request_fits c =
@@ -19,17 +19,17 @@ returns-then-not-request_fits c =
     let a = c.args in
     let f = outside a.roles (flat a.asked.now a.n) in
     let here = ap not (sym (c.request_fits.ensures ∙ ap (fits a.roles) c.request_at.ensures)) ∙ c.if-not-request_fits.true-raw in
-    c.refuse.ensures ∙ outside_here a.roles (flat a.asked.now a.n) l.k c.loop-k-test.true (search_found l.k f l.invariant.1 a.n c.loop-k-test.true here)
+    c.refuse.ensures ∙ outside_here a.roles (flat a.asked.now a.n) l.k c.loop-k-test.true (search_found l.k f l.invariant a.n c.loop-k-test.true here)
 
 pub loop-k-preserved : goal.loop-k-preserved
 loop-k-preserved c =
     let l = c.loop-k in
     let a = c.args in
     let here = ap not (sym (c.request_fits.ensures ∙ ap (fits a.roles) c.request_at.ensures)) ∙ c.if-not-request_fits.false-raw in
-    (search rules, search_next l.k (outside a.roles (flat a.asked.now a.n)) l.invariant.1 here)
+    search_next l.k (outside a.roles (flat a.asked.now a.n)) l.invariant here
 
 pub returns : goal.returns
 returns c =
     let l = c.loop-k in
     let a = c.args in
-    outside_none a.roles (flat a.asked.now a.n) (search_end a.n l.k _ (search rules) (search rules) l.invariant.1)
+    outside_none a.roles (flat a.asked.now a.n) (search_end a.n l.k _ (search rules) (search rules) l.invariant)

@@ -14,7 +14,6 @@ use Rattle.frames.specs.Frame.{bytes_of}
 use Rattle.frames.specs.Laws.Frame.{length_bytes}
 use Rattle.tables.specs.Lent.{Rules, sheet_in}
 use Rattle.line_by_line.specs.Lines.{joined, Unbroken}
-use Rattle.writer.specs.declared.Sent.{Sent}
 use Rattle.writer.specs.Outcome.{Writes, AtFront}
 use Rattle.writer.proofs.Laws.OneLine.{header_size, periodic_size, trigger_size, end_size}
 use Rattle.writer.proofs.Laws.Room.{LONGEST, few_periodics, few_triggers, few_bodies}
@@ -115,9 +114,9 @@ writes_short R good ls x =
     )
 
 -- so what stands at the front of a buffer leaves what lies past it, and the buffer's length
-pub front_stays : (R : Rules) → GoodOrder (sheet_in R) → (out : List ℕ) → length out ≡ SHEET_BYTES → (r : Sent) (out' : List ℕ) → AtFront R out r out'
-    → (drop r.length out' ≡ drop r.length out) × (length out' ≡ length out)
-front_stays R good out whole r out' f =
+pub front_stays : (R : Rules) → GoodOrder (sheet_in R) → (out : List ℕ) → length out ≡ SHEET_BYTES → (written : ℕ) (out' : List ℕ) → AtFront R out written out'
+    → (drop written out' ≡ drop written out) × (length out' ≡ length out)
+front_stays R good out whole written out' f =
     let n : ℕ = length (joined f.sent) in
     let short : n ≤ LONGEST = writes_short R good f.sent f.writes in (
       ap₂ drop f.size f.buffer ∙ drop_at (joined f.sent) (drop n out) n refl ∙ ap (λ (k : ℕ). drop k out) (sym f.size),

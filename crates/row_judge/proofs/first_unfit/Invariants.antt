@@ -2,7 +2,6 @@
 -- Assumes nothing.
 use mathlib.Core.Path.{◌≡◌}
 use mathlib.Core.Bool.{not}
-use Prim.Native.Nat.{◌-◌, ◌≤◌}
 use Rattle.theory.specs.Below.{first_below}
 use Rattle.tables.specs.Lent.{rules, sheet_in}
 use Rattle.row_judge.specs.Judge.{row_fits}
@@ -10,8 +9,4 @@ use Rattle.row_judge.proofs.first_unfit.Given as goal
 
 abbrev pub invariant-loop-k : goal.invariant-loop-k
 invariant-loop-k l =
-    (l.k ≤ l.rows) × (first_below l.k (λ i. not (row_fits (sheet_in (rules l.counts l.periodics l.triggers)) i)) ≡ l.k)
-
-abbrev pub decreases-loop-k : goal.decreases-loop-k
-decreases-loop-k l =
-    l.rows - l.k
+    first_below l.k (λ i. not (row_fits (sheet_in (rules l.counts l.periodics l.triggers)) i)) ≡ l.k

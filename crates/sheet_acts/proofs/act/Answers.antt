@@ -7,15 +7,15 @@ use Rattle.sheet_acts.proofs.act.Goals as goal
 
 pub put_periodic-requires : goal.put_periodic-requires
 put_periodic-requires c =
-    ((λ h. room_periodics _ _ _ c.requires.0.1 (sym c.byte_at-k.ensures ∙ h)), c.requires.1.0)
+    λ h. room_periodics _ _ _ c.requires.1 (sym c.byte_at-k.ensures ∙ h)
 
 pub put_trigger-requires : goal.put_trigger-requires
 put_trigger-requires c =
-    ((λ h. room_triggers _ _ _ c.requires.0.1 (sym c.byte_at-k.ensures ∙ h)), c.requires.1.1)
+    λ h. room_triggers _ _ _ c.requires.1 (sym c.byte_at-k.ensures ∙ h)
 
 pub seen_after-requires : goal.seen_after-requires
 seen_after-requires c =
-    (c.requires.0.0, ((λ h. room_periodics _ _ _ c.requires.0.1 (sym c.byte_at-k.ensures ∙ h)), (λ h. room_triggers _ _ _ c.requires.0.1 (sym c.byte_at-k.ensures ∙ h))))
+    (c.requires.0, ((λ h. room_periodics _ _ _ c.requires.1 (sym c.byte_at-k.ensures ∙ h)), (λ h. room_triggers _ _ _ c.requires.1 (sym c.byte_at-k.ensures ∙ h))))
 
 pub returns : goal.returns
 unfolding after

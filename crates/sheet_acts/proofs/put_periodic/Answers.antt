@@ -10,11 +10,11 @@ use Rattle.sheet_acts.proofs.put_periodic.Goals as goal
 
 pub copy_in-requires : goal.copy_in-requires
 copy_in-requires c =
-    omega (arith, c.row_index.ensures, c.requires.0 c.if-k-eq-PERIODIC.true, ap length c.periodic_row-row.ensures ∙ length_periodic _, c.requires.1)
+    omega (arith, c.from.ensures, c.requires c.if-k-eq-PERIODIC.true, ap length c.periodic_row-row.ensures ∙ length_periodic _)
 
 pub returns-then-k-eq-PERIODIC : goal.returns-then-k-eq-PERIODIC
 returns-then-k-eq-PERIODIC c =
-    c.copy_in.ensures ∙ table_put _ _ _ _ 16 _ _ _ c.if-k-eq-PERIODIC.true c.periodic_row-row.ensures (length_periodic _) (ap (λ (x : ℕ). 16 * x) c.row_index.ensures)
+    c.copy_in.ensures ∙ table_put _ _ _ _ 16 _ _ _ c.if-k-eq-PERIODIC.true c.periodic_row-row.ensures (length_periodic _) (ap (λ (x : ℕ). 16 * x) c.from.ensures)
 
 pub returns-else-k-eq-PERIODIC : goal.returns-else-k-eq-PERIODIC
 returns-else-k-eq-PERIODIC c =

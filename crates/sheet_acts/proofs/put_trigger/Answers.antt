@@ -10,11 +10,11 @@ use Rattle.sheet_acts.proofs.put_trigger.Goals as goal
 
 pub copy_in-requires : goal.copy_in-requires
 copy_in-requires c =
-    omega (arith, c.row_index.ensures, c.requires.0 c.if-k-eq-TRIGGER.true, ap length c.trigger_row-row.ensures ∙ length_trigger _, c.requires.1)
+    omega (arith, c.from.ensures, c.requires c.if-k-eq-TRIGGER.true, ap length c.trigger_row-row.ensures ∙ length_trigger _)
 
 pub returns-then-k-eq-TRIGGER : goal.returns-then-k-eq-TRIGGER
 returns-then-k-eq-TRIGGER c =
-    c.copy_in.ensures ∙ table_put _ _ _ _ 13 _ _ _ c.if-k-eq-TRIGGER.true c.trigger_row-row.ensures (length_trigger _) (ap (λ (x : ℕ). 13 * x) c.row_index.ensures)
+    c.copy_in.ensures ∙ table_put _ _ _ _ 13 _ _ _ c.if-k-eq-TRIGGER.true c.trigger_row-row.ensures (length_trigger _) (ap (λ (x : ℕ). 13 * x) c.from.ensures)
 
 pub returns-else-k-eq-TRIGGER : goal.returns-else-k-eq-TRIGGER
 returns-else-k-eq-TRIGGER c =

@@ -10,8 +10,8 @@ unfolding seen_after
 returns-then-k-eq-HEADER c =
     search (eq-eqb)
 
-pub overflow_add-result : goal.overflow_add-result
-overflow_add-result c =
+pub overflow_add-counts : goal.overflow_add-counts
+overflow_add-counts c =
     let g = c.requires.1.0 c.if-k-eq-PERIODIC.true in omega arith
 
 pub returns-then-k-eq-PERIODIC : goal.returns-then-k-eq-PERIODIC
@@ -19,8 +19,8 @@ unfolding seen_after
 returns-then-k-eq-PERIODIC c =
     search (eq-eqb, ne_eqb)
 
-pub overflow_add-result-then-k-eq-TRIGGER : goal.overflow_add-result-then-k-eq-TRIGGER
-overflow_add-result-then-k-eq-TRIGGER c =
+pub overflow_add-counts-then-k-eq-TRIGGER : goal.overflow_add-counts-then-k-eq-TRIGGER
+overflow_add-counts-then-k-eq-TRIGGER c =
     let g = c.requires.1.1 c.if-k-eq-TRIGGER.true in omega arith
 
 pub returns-then-k-eq-TRIGGER : goal.returns-then-k-eq-TRIGGER

@@ -1,16 +1,11 @@
 -- `solver::by_keys` meets its contract. The loop's invariant: the key k is reached, all lower keys being done.
 -- Assumes nothing.
-use mathlib.Core.Path.{refl, ◌∙◌}
+use mathlib.Core.Path.{refl}
 use Rattle.theory.proofs.Laws.Solving.{reached_first, reached_next}
 use Rattle.tables.specs.Layout.{sheet_of, triggers_of}
 use Rattle.solver.specs.Laws.{solved_last}
-use borrow.Author.Rules.{rules}
 use native.Mathlib.Omega.{arith}
 use Rattle.solver.proofs.by_keys.Goals as goal
-
-pub chains-chains-requires : goal.chains-chains-requires
-chains-chains-requires c =
-    c.requires.1
 
 pub loop-k-init : goal.loop-k-init
 unfolding sheet_of
@@ -19,10 +14,6 @@ loop-k-init c =
     let e = c.next-k.ensures in
     (refl, e.0, e.1, reached_first (triggers_of a.n a.triggers.now) _ _ _ (e.2 _ c.chains-chains.ensures))
 
-pub settle-requires : goal.settle-requires
-settle-requires c =
-    (c.loop-k.invariant.0 ∙ c.requires.0, (c.loop-k.invariant.1, search rules), (_, c.chains-chains.ensures))
-
 pub loop-k-preserved : goal.loop-k-preserved
 unfolding sheet_of
 loop-k-preserved c =
@@ -30,7 +21,7 @@ loop-k-preserved c =
     let h = c.chains-chains.ensures in
     let p = c.settle.ensures _ h in
     let e = c.next-k-in-loop-k.ensures in (
-      c.settle.auto.events ∙ c.loop-k.invariant.0,
+      omega arith,
       omega (arith, e.0),
       e.1,
       reached_next (triggers_of a.n a.triggers.now) _ _ _ _ _ _ e.0 (e.2 _ h) p.0 p.1 c.loop-k.invariant.3,

@@ -4,14 +4,6 @@ use Rattle.solver.specs.Laws.{solved_none}
 use native.Mathlib.Omega.{arith}
 use Rattle.solver.proofs.solve.Goals as goal
 
-pub returns-then-events-ne-EVENTS_NUMBERS : goal.returns-then-events-ne-EVENTS_NUMBERS
-returns-then-events-ne-EVENTS_NUMBERS c =
-    solved_none _ _ _ _ _ (λ l m. c.if-events-ne-EVENTS_NUMBERS.true l)
-
 pub returns-then-n-gt-TRIGGER_ROWS : goal.returns-then-n-gt-TRIGGER_ROWS
 returns-then-n-gt-TRIGGER_ROWS c =
     solved_none _ _ _ _ _ (λ l m. omega (arith, c.if-n-gt-TRIGGER_ROWS.true))
-
-pub returns : goal.returns
-returns c =
-    c.by_keys.ensures

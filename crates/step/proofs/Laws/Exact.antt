@@ -1,6 +1,6 @@
 -- The contract of the step leaves one possible answer and one possible content of all that is lent; its events are the one solution; and on OK it goes by the set of the requests.
 -- Assumes nothing.
-use Rattle.std.specs.Prelude.{◌≡◌, refl, Bool, true, ◌&&◌, ◌||◌, List, ℕ, ◌+◌, ◌*◌, ◌<◌, ltb, eqb, length, get_or}
+use Rattle.std.specs.Prelude.{◌≡◌, refl, Bool, true, ◌&&◌, ◌||◌, List, ℕ, ◌+◌, ◌*◌, ◌<◌, ltb, eqb, length, get_or, Err}
 use Rattle.std.proofs.Common.{sym, ap, ◌∙◌, subst, ⊎_elim, arith, ltb-true, eqb-true}
 use Rattle.std.proofs.Math.Path.{fun_ext}
 use Rattle.std.proofs.Math.Logic.{by_cases}
@@ -20,8 +20,6 @@ use Rattle.theory.proofs.Laws.OneSolution.{InBuffer, one_solution, solution_in_b
 use Rattle.theory.proofs.Laws.Run.{step_same}
 use Rattle.answers.proofs.Laws.{verdict_cases}
 use Rattle.answers.specs.declared.Refusal.{Refusal}
-use Rattle.answers.specs.declared.Verdict.{Verdict}
-use Rattle.answers.specs.declared.Verdict.TheVariants.{Pass, Refused}
 use Rattle.tables.specs.Layout.{sheet_of, periodic_at}
 use Rattle.tables.specs.Buffers.{bit, roles_of, events_of, waiting_of, Narrow}
 use Rattle.tables.specs.Asked.{Asked, asks}
@@ -33,6 +31,7 @@ use Rattle.requests.specs.Requests.{AllFit}
 use Rattle.requests.specs.Laws.{fit_says, asks_elim}
 use Rattle.step.specs.Outcome.{judge_step, Stepped, Outcome}
 use Rattle.step.proofs.Laws.Passes.{step_passes}
+use Rattle.answers.specs.Answers.{Verdict, pass}
 
 -- ---- two steps on what was lent are one, where their requests ask for the same set
 
@@ -49,7 +48,7 @@ stepped_one R q q' before a a' good nl e x y =
     λ k. record { instant = i k; roles = r k; waiting = w k; events = v k }
 
 -- what was accepted has good order and no loop
-pub accepted : (R : Rules) (q : Asked) (before : Lent) → judge_step R q before ≡ Pass → GoodOrder (sheet_in R) × NoLoop (sheet_in R)
+pub accepted : (R : Rules) (q : Asked) (before : Lent) → judge_step R q before ≡ pass → GoodOrder (sheet_in R) × NoLoop (sheet_in R)
 accepted R q before h = judge_passes (sheet_in R) (step_passes R q before h).tables
 
 -- THE STEP IS EXACT: any two outcomes that the contract allows are equal
@@ -58,21 +57,21 @@ step_exact R q before v v' a a' x y =
     let e : v ≡ v' = x.judged ∙ sym y.judged in (
       e,
       ⊎_elim
-          (λ (p : v ≡ Pass).
+          (λ (p : v ≡ pass).
           let g = accepted R q before (sym x.judged ∙ p) in
           stepped_one R q q before a a' g.0 g.1 refl (x.passed p) (y.passed (sym e ∙ p)))
-          (λ (r : (r : Refusal) × (v ≡ Refused r)). x.refused r.0 r.1 ∙ sym (y.refused r.0 (sym e ∙ r.1)))
+          (λ (r : (r : Refusal) × (v ≡ Err r)). x.refused r.0 r.1 ∙ sym (y.refused r.0 (sym e ∙ r.1)))
           (verdict_cases v),
     )
 
 -- REQUESTS IN ANY ORDER: on OK the outcome depends only on the set that they ask for, not on their order or repeats
-pub requests_as_set : (R : Rules) (q q' : Asked) (before a a' : Lent) → asks q ≡ asks q' → Outcome R q before Pass a → Outcome R q' before Pass a' → a ≡ a'
+pub requests_as_set : (R : Rules) (q q' : Asked) (before a a' : Lent) → asks q ≡ asks q' → Outcome R q before pass a → Outcome R q' before pass a' → a ≡ a'
 requests_as_set R q q' before a a' e x y =
     let g = accepted R q before (sym x.judged) in
     stepped_one R q q' before a a' g.0 g.1 e (x.passed refl) (y.passed refl)
 
 -- THE STEP HANDS OUT THE ONE SOLUTION: on OK the events buffer solves the instant's equation, and no other set does
-pub step_solves : (R : Rules) (q : Asked) (before a : Lent) → Outcome R q before Pass a
+pub step_solves : (R : Rules) (q : Asked) (before a : Lent) → Outcome R q before pass a
     → Solves (sheet_in R) (roles_of before.roles) (givens (sheet_in R) (asks q) (state_in before)) (events_of a.events)
     × ((S : Events) → Solves (sheet_in R) (roles_of before.roles) (givens (sheet_in R) (asks q) (state_in before)) S → S ≡ events_of a.events)
 step_solves R q before a x =

@@ -6,10 +6,8 @@ use Rattle.theory.specs.Numbers.{EVENTS, LAST_INSTANT, REQUESTS, WAITING_NUMBERS
 use Rattle.theory.proofs.Laws.Tests.{and_left, and_right, test}
 use Rattle.theory.specs.Graph.{Levels}
 use Rattle.answers.specs.declared.Name.TheVariants.{Length, TooMany, Last}
-use Rattle.answers.specs.declared.Verdict.{Verdict}
-use Rattle.answers.specs.declared.Verdict.TheVariants.{Pass}
 use Rattle.answers.proofs.Laws.{cond_pass, both_pass}
-use Rattle.answers.specs.Answers.{refuse, and_then}
+use Rattle.answers.specs.Answers.{refuse, and_then, Verdict, pass}
 use Rattle.tables.specs.Layout.{byte_at, PERIODIC_TABLE, TRIGGER_TABLE}
 use Rattle.tables.specs.Asked.{Asked}
 use Rattle.tables.specs.Lent.{Rules, sheet_in, Lent}
@@ -25,7 +23,7 @@ use Rattle.step.specs.Parts.{Sound}
 
 -- ---- the tests before the tables
 
-pub first_says : (fit : Bool) (t n : ℕ) → judge_first fit t n ≡ Pass → (fit ≡ true) × (t ≤ LAST_INSTANT) × (n ≤ REQUESTS)
+pub first_says : (fit : Bool) (t n : ℕ) → judge_first fit t n ≡ pass → (fit ≡ true) × (t ≤ LAST_INSTANT) × (n ≤ REQUESTS)
 unfolding judge_first
 first_says fit t n h =
     let a = cond_pass fit _ _ _ h in
@@ -79,10 +77,10 @@ pub record StepAccepted (R : Rules) (q : Asked) (l : Lent) : Type 0 where
   pub lengths : Lengths R l
   pub served : l.instant ≤ LAST_INSTANT
   pub few : q.count ≤ REQUESTS
-  pub tables : judge_tables (sheet_in R) ≡ Pass
-  pub requests : judge_requests R.counts.roles q ≡ Pass
+  pub tables : judge_tables (sheet_in R) ≡ pass
+  pub requests : judge_requests R.counts.roles q ≡ pass
 
-pub step_passes : (R : Rules) (q : Asked) (l : Lent) → judge_step R q l ≡ Pass → StepAccepted R q l
+pub step_passes : (R : Rules) (q : Asked) (l : Lent) → judge_step R q l ≡ pass → StepAccepted R q l
 unfolding judge_step
 step_passes R q l h =
     let a = cond_pass (lengths_fit R l) _ _ _ h in
@@ -92,7 +90,7 @@ step_passes R q l h =
     record { lengths = lengths_say R l a.0; served = leb-true _ _ b.0; few = leb-true _ _ c.0; tables = d.0; requests = d.1 }
 
 -- and the other way round: what has all of that passes
-pub step_accepts : (R : Rules) (q : Asked) (l : Lent) → StepAccepted R q l → judge_step R q l ≡ Pass
+pub step_accepts : (R : Rules) (q : Asked) (l : Lent) → StepAccepted R q l → judge_step R q l ≡ pass
 unfolding judge_step lengths_fit exact_lengths and_then
 step_accepts R q l a =
     let n = a.lengths in
@@ -112,11 +110,11 @@ pub verdict_is : (R : Rules) (j : Judged) → j ≡ judged (sheet_in R) → j.ve
 unfolding judged
 verdict_is R j e = ap (λ (x : Judged). x.verdict) e
 
-pub sound : (R : Rules) (q : Asked) (j : Judged) (v : Verdict) → j ≡ judged (sheet_in R) → v ≡ and_then j.verdict (judge_requests R.counts.roles q) → v ≡ Pass → Sound R j.levels q
+pub sound : (R : Rules) (q : Asked) (j : Judged) (v : Verdict) → j ≡ judged (sheet_in R) → v ≡ and_then j.verdict (judge_requests R.counts.roles q) → v ≡ pass → Sound R j.levels q
 sound R q j v e h p =
     let w : j.verdict ≡ judge_tables (sheet_in R) = verdict_is R j e in
     let b = both_pass j.verdict (judge_requests R.counts.roles q) (sym h ∙ p) in
-    let t : judge_tables (sheet_in R) ≡ Pass = sym w ∙ b.0 in
+    let t : judge_tables (sheet_in R) ≡ pass = sym w ∙ b.0 in
     record {
       good = (judge_passes (sheet_in R) t).0;
       rule = subst (λ (x : Judged). Levels (sheet_in R) (byte_at x.levels)) (sym e) (judged_levels (sheet_in R) t);

@@ -1,7 +1,7 @@
 -- Unused rows, and the places of a trigger past its counts, are ignored: under the same sheet a step has the same outcome.
 -- The rows are judged alike. Where they pass, the counts of each trigger are within their limits, and the two sheets are the same in all that is used.
 -- Assumes nothing.
-use Rattle.std.specs.Prelude.{◌≡◌, refl, ◌↔◌, ℕ, ltb, length}
+use Rattle.std.specs.Prelude.{◌≡◌, refl, ◌↔◌, ℕ, ltb, length, Err}
 use Rattle.std.proofs.Common.{sym, ◌∙◌, ⊎_elim}
 use Rattle.std.proofs.Math.Path.{ap, ap₂}
 use Rattle.std.proofs.Math.Bool.{cond}
@@ -12,9 +12,7 @@ use Rattle.theory.proofs.Laws.OneSolution.{good_trigger}
 use Rattle.theory.proofs.Laws.Used.{loop_place_used, step_used}
 use Rattle.answers.specs.declared.Name.TheVariants.{Loop}
 use Rattle.answers.specs.declared.Refusal.{Refusal}
-use Rattle.answers.specs.declared.Verdict.{Verdict}
-use Rattle.answers.specs.declared.Verdict.TheVariants.{Pass, Refused}
-use Rattle.answers.specs.Answers.{refuse}
+use Rattle.answers.specs.Answers.{refuse, Verdict, pass}
 use Rattle.tables.specs.declared.Counts.{Counts}
 use Rattle.tables.specs.Layout.{sheet_of, trigger_at}
 use Rattle.tables.specs.Buffers.{events_of}
@@ -99,13 +97,13 @@ module _ (R R' : Rules) (s : SameRules R R') where
   unfolding judge_loop
   loops_used good =
       let u : SameUsed sh sh' = sheets_used good in
-      ap (λ (k : ℕ). cond (ltb k PAIRS) (refuse Loop k) Pass) (loop_place_used sh sh' u.trigger_count u.triggers)
+      ap (λ (k : ℕ). cond (ltb k PAIRS) (refuse Loop k) pass) (loop_place_used sh sh' u.trigger_count u.triggers)
 
   pub tables_used : judge_tables sh ≡ judge_tables sh'
   tables_used =
       ⊎_elim
-      (λ (x : (judge_rows sh ≡ Pass) × GoodOrder sh). tables_loop sh x.0 ∙ (loops_used x.1 ∙ sym (tables_loop sh' (sym rows_used ∙ x.0))))
-      (λ (y : (r : Refusal) × (judge_rows sh ≡ Refused r) × Says sh (Refused r)). tables_refused sh y.0 y.1 ∙ sym (tables_refused sh' y.0 (sym rows_used ∙ y.1)))
+      (λ (x : (judge_rows sh ≡ pass) × GoodOrder sh). tables_loop sh x.0 ∙ (loops_used x.1 ∙ sym (tables_loop sh' (sym rows_used ∙ x.0))))
+      (λ (y : (r : Refusal) × (judge_rows sh ≡ Err r) × Says sh (Err r)). tables_refused sh y.0 y.1 ∙ sym (tables_refused sh' y.0 (sym rows_used ∙ y.1)))
       (rows_say sh)
 
   judged_used : (q : Asked) (l : Lent) → judge_step R q l ≡ judge_step R' q l

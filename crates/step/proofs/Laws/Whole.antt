@@ -1,13 +1,11 @@
 -- The outcome, put together from the verdicts of its parts and what was then done.
 -- Assumes nothing.
-use Rattle.std.specs.Prelude.{◌≡◌, refl, List, ℕ, ◌≤◌}
+use Rattle.std.specs.Prelude.{◌≡◌, refl, List, ℕ, ◌≤◌, Err}
 use Rattle.std.proofs.Common.{sym, ap, ap₂, ◌∙◌}
 use Rattle.theory.specs.Numbers.{LAST_INSTANT, REQUESTS}
 use Rattle.answers.proofs.Laws.{no_pass}
 use Rattle.answers.specs.declared.Refusal.{Refusal}
-use Rattle.answers.specs.declared.Verdict.{Verdict}
-use Rattle.answers.specs.declared.Verdict.TheVariants.{Pass, Refused}
-use Rattle.answers.specs.Answers.{and_then}
+use Rattle.answers.specs.Answers.{and_then, Verdict, pass}
 use Rattle.tables.specs.Asked.{Asked, flat}
 use Rattle.tables.specs.Lent.{Rules, sheet_in, Lent}
 use Rattle.table_judge.specs.declared.Judged.{Judged}
@@ -27,7 +25,7 @@ module _ (R : Rules) (q : Asked) (before : Lent) (j : Judged) (v w : Verdict) (e
   inner_verdict : v ≡ and_then (judge_tables (sheet_in R)) (judge_requests R.counts.roles q)
   inner_verdict = h ∙ ap₂ and_then (verdict_is R j e) f
 
-  pub inner_passed : (after : Lent) → v ≡ Pass → Sized before.waiting before.events → Acted R q j.levels before after → Inner R q before Pass after
+  pub inner_passed : (after : Lent) → v ≡ pass → Sized before.waiting before.events → Acted R q j.levels before after → Inner R q before pass after
   inner_passed after p size x =
       record {
         judged = sym p ∙ inner_verdict;
@@ -35,20 +33,20 @@ module _ (R : Rules) (q : Asked) (before : Lent) (j : Judged) (v w : Verdict) (e
         passed = λ _. acted R j.levels q before after size x (sound R q j v e (h ∙ ap (and_then j.verdict) f) p);
       }
 
-  pub inner_refused : (r : Refusal) → v ≡ Refused r → Inner R q before (Refused r) before
+  pub inner_refused : (r : Refusal) → v ≡ Err r → Inner R q before (Err r) before
   inner_refused r p = record { judged = sym p ∙ inner_verdict; refused = λ _ _. refl; passed = λ z. no_pass r z }
 
 -- ---- by LENGTH, LAST and TOO MANY of requests
 
 module _ (R : Rules) (asked : List ℕ) (n : ℕ) (before : Lent) (v : Verdict) (h : v ≡ judge_first (lengths_fit R before) before.instant n) where
   -- after a pass the instant is served, the buffers have their lengths, and the requests are few
-  pub outer_ready : v ≡ Pass → (before.instant ≤ LAST_INSTANT) × Sized before.waiting before.events
+  pub outer_ready : v ≡ pass → (before.instant ≤ LAST_INSTANT) × Sized before.waiting before.events
   outer_ready p =
       let s = first_says (lengths_fit R before) before.instant n (sym h ∙ p) in
       let l = lengths_say R before s.0 in
       (s.1, (l.waiting, l.events))
 
-  pub outer_few : v ≡ Pass → n ≤ REQUESTS
+  pub outer_few : v ≡ pass → n ≤ REQUESTS
   outer_few p = (first_says (lengths_fit R before) before.instant n (sym h ∙ p)).2
 
   -- the tests that are left
@@ -58,10 +56,10 @@ module _ (R : Rules) (asked : List ℕ) (n : ℕ) (before : Lent) (v : Verdict) 
   outer_verdict : (w : Verdict) → v ≡ w → and_then w tests ≡ judge_step R (flat asked n) before
   outer_verdict w p = sym (step_parts R (flat asked n) before ∙ ap (λ (x : Verdict). and_then x tests) (sym h ∙ p))
 
-  pub outer_passed : (u : Verdict) (after : Lent) → v ≡ Pass → Inner R (flat asked n) before u after → Outcome R (flat asked n) before u after
+  pub outer_passed : (u : Verdict) (after : Lent) → v ≡ pass → Inner R (flat asked n) before u after → Outcome R (flat asked n) before u after
   unfolding and_then
-  outer_passed u after p x = record { judged = x.judged ∙ outer_verdict Pass p; refused = x.refused; passed = x.passed }
+  outer_passed u after p x = record { judged = x.judged ∙ outer_verdict pass p; refused = x.refused; passed = x.passed }
 
-  pub outer_refused : (r : Refusal) → v ≡ Refused r → Outcome R (flat asked n) before (Refused r) before
+  pub outer_refused : (r : Refusal) → v ≡ Err r → Outcome R (flat asked n) before (Err r) before
   unfolding and_then
-  outer_refused r p = record { judged = outer_verdict (Refused r) p; refused = λ _ _. refl; passed = λ z. no_pass r z }
+  outer_refused r p = record { judged = outer_verdict (Err r) p; refused = λ _ _. refl; passed = λ z. no_pass r z }

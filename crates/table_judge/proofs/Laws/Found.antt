@@ -8,8 +8,7 @@ use Rattle.theory.specs.Graph.{pair_place}
 use Rattle.theory.specs.LoopTest.{PAIRS, loop_place}
 use Rattle.theory.proofs.Laws.Tests.{test}
 use Rattle.answers.specs.declared.Name.TheVariants.{Loop}
-use Rattle.answers.specs.declared.Verdict.TheVariants.{Pass}
-use Rattle.answers.specs.Answers.{refuse}
+use Rattle.answers.specs.Answers.{refuse, pass}
 use Rattle.loops.specs.Tested.{found_at}
 use Rattle.table_judge.specs.Judge.{judge_loop}
 use Rattle.table_judge.specs.Judged.{loop_verdict}
@@ -20,7 +19,7 @@ unfolding found_at
 found_place k h = let e : pair_place (k / EVENTS) (k % EVENTS) ≡ k = omega arith in rw h (ap (refuse Loop) e)
 
 -- the number of pairs is a pass
-pub found_none : (k : ℕ) → ltb k PAIRS ≡ false → loop_verdict (found_at k) ≡ Pass
+pub found_none : (k : ℕ) → ltb k PAIRS ≡ false → loop_verdict (found_at k) ≡ pass
 unfolding found_at
 found_none k h = rw h
 

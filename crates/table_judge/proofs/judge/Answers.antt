@@ -4,12 +4,12 @@ use Rattle.tables.specs.Lent.{rules}
 use Rattle.table_judge.proofs.Laws.Answer.{rows_refused, rows_passed}
 use Rattle.table_judge.proofs.judge.Goals as goal
 
-pub returns-in-Pass : goal.returns-in-Pass
-returns-in-Pass c =
+pub returns-in-Ok : goal.returns-in-Ok
+returns-in-Ok c =
     let a = c.args in
-    rows_passed (rules a.counts a.periodics.now a.triggers.now) _ c.rows_judged-rows.ensures c.in-Pass.is _ c.loop_judged.ensures
+    rows_passed (rules a.counts a.periodics.now a.triggers.now) _ c.rows_judged-rows.ensures c.in-Ok.is _ c.loop_judged.ensures
 
-pub returns-in-Refused : goal.returns-in-Refused
-returns-in-Refused c =
+pub returns-in-Err : goal.returns-in-Err
+returns-in-Err c =
     let a = c.args in
-    rows_refused (rules a.counts a.periodics.now a.triggers.now) _ c.rows_judged-rows.ensures _ c.in-Refused.is
+    rows_refused (rules a.counts a.periodics.now a.triggers.now) _ c.rows_judged-rows.ensures _ c.in-Err.is

@@ -2,6 +2,6 @@
 -- Assumes nothing.
 use Rattle.table_judge.proofs.loop_verdict.Goals as goal
 
-pub returns-in-At : goal.returns-in-At
-returns-in-At c =
-    rw c.in-At.is c.refuse.ensures
+pub returns-in-Some : goal.returns-in-Some
+returns-in-Some c =
+    rw c.in-Some.is c.refuse.ensures

@@ -9,10 +9,10 @@ use Rattle.line_readers.specs.Walks.{goes, walks}
 use Rattle.tape.specs.Tape.{tape_reader, tape_read}
 use Rattle.tape.proofs.read_tape.Given as goal
 
-abbrev pub invariant-loop-at : goal.invariant-loop-at
-invariant-loop-at l =
+abbrev pub invariant-loop-line : goal.invariant-loop-line
+invariant-loop-line l =
     ((l.at ≤ length l.tape) × (l.s.line ≤ l.before + l.at)) × (walks (tape_reader l.roles) (goes l.s) (lines (drop l.at l.tape)) ≡ tape_read l.roles l.before l.tape)
 
-abbrev pub decreases-loop-at : goal.decreases-loop-at
-decreases-loop-at l =
+abbrev pub decreases-loop-line : goal.decreases-loop-line
+decreases-loop-line l =
     length l.tape - l.at

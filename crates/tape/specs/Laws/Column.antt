@@ -1,10 +1,9 @@
 -- The column of a tape's refusal: what it says, and that it is at one of the tape's lines or at the one after the last.
 -- Assumes nothing.
-use Rattle.std.specs.Prelude.{◌≡◌, refl, ◌⊎◌, Bool, true, false, cond, List, ℕ, ◌+◌, length}
+use Rattle.std.specs.Prelude.{◌≡◌, refl, ◌⊎◌, Bool, true, false, cond, List, ℕ, ◌+◌, length, Err}
 use Rattle.std.proofs.Common.{sym, ap, ◌∙◌, inl, inr, ⊎_elim, arith}
 use Rattle.answers.specs.declared.Name.TheVariants.{Kind, Request}
 use Rattle.answers.specs.declared.Refusal.{Refusal}
-use Rattle.answers.specs.declared.Verdict.TheVariants.{Refused}
 use Rattle.answers.specs.Answers.{refusal}
 use Rattle.text.specs.Lines.{lines, all_lines}
 use Rattle.frames.specs.Frame.{bytes_of}
@@ -21,7 +20,7 @@ use Rattle.tape.specs.Laws.Line.{line_next}
 abbrev pub AtInstant : ℕ → Type 0
 AtInstant k = k ≡ 3
 
-judged_in_line : (place roles : ℕ) (s : Heard) (l : List ℕ) (r : Refusal) → judge_tape place roles s l ≡ Refused r → InLine AtInstant l place r
+judged_in_line : (place roles : ℕ) (s : Heard) (l : List ℕ) (r : Refusal) → judge_tape place roles s l ≡ Err r → InLine AtInstant l place r
 unfolding judge_tape tape_tests
 judged_in_line place roles s l r e =
     judged_within AtInstant l INSTANT_BYTE (tape_tests roles s l) Request place refl (omega arith) (λ a. a)

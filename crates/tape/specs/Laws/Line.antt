@@ -1,12 +1,11 @@
 -- Laws of a tape's lines: what the code hands back as the definitions say it, each is one line more, and what passed had room.
 -- Assumes nothing.
-use Rattle.std.specs.Prelude.{◌≡◌, refl, true, false, List, ℕ, ◌+◌, ◌<◌, eqb}
+use Rattle.std.specs.Prelude.{◌≡◌, refl, true, false, List, ℕ, ◌+◌, ◌<◌, eqb, Err, Ok, Result}
 use Rattle.std.proofs.Common.{sym, ap, ◌∙◌, ⊎_elim, eq-eqb, ltb-true}
 use Rattle.theory.specs.Numbers.{REQUESTS}
 use Rattle.theory.proofs.Laws.Tests.{test}
 use Rattle.answers.specs.declared.Name.TheVariants.{Request}
 use Rattle.answers.specs.declared.Refusal.{Refusal}
-use Rattle.answers.specs.declared.Verdict.TheVariants.{Pass}
 use Rattle.line_readers.specs.Order.{in_order}
 use Rattle.line_readers.specs.Laws.Order.{each_passes}
 use Rattle.line_readers.specs.Laws.Column.{located_pass}
@@ -18,17 +17,16 @@ use Rattle.kinds.specs.Kinds.{kind}
 use Rattle.tape_frames.specs.Frame.{ASK, instant_of}
 use Rattle.tape_tests.specs.declared.Heard.{Heard}
 use Rattle.tape_tests.specs.Tests.{of_tape, room_for_request, in_time, ask_fits, tape_tests, INSTANT_BYTE, judge_tape}
-use Rattle.tape.specs.declared.Taken.{Taken}
-use Rattle.tape.specs.declared.Taken.TheVariants.{Goes, Refused}
 use Rattle.tape.specs.Tape.{heard_after, tape_step}
 use Rattle.tape.specs.Took.{took}
+use Rattle.answers.specs.Answers.{pass}
 
 -- ---- what comes back
 
-pub went : (w : Taken) (x : Going Heard) (s : Heard) → took w ≡ x → w ≡ Goes s → goes s ≡ x
+pub went : (w : Result Heard Refusal) (x : Going Heard) (s : Heard) → took w ≡ x → w ≡ Ok s → goes s ≡ x
 went w x s e h = sym (ap took h) ∙ e
 
-pub stopped : (w : Taken) (x : Going Heard) (r : Refusal) → took w ≡ x → w ≡ Refused r → refused r ≡ x
+pub stopped : (w : Result Heard Refusal) (x : Going Heard) (r : Refusal) → took w ≡ x → w ≡ Err r → refused r ≡ x
 stopped w x r e h = sym (ap took h) ∙ e
 
 -- ---- one line
@@ -41,7 +39,7 @@ pub record Passed (roles : ℕ) (s : Heard) (l : List ℕ) : Type 0 where
   pub in_time : in_time s (bytes_of l) ≡ true
   pub fit : ask_fits roles (bytes_of l) ≡ true
 
-pub passes : (place roles : ℕ) (s : Heard) (l : List ℕ) → judge_tape place roles s l ≡ Pass → Passed roles s l
+pub passes : (place roles : ℕ) (s : Heard) (l : List ℕ) → judge_tape place roles s l ≡ pass → Passed roles s l
 unfolding judge_tape tape_tests
 passes place roles s l e =
     let a = each_passes (tape_tests roles s l) Request place (located_pass l INSTANT_BYTE (in_order (tape_tests roles s l) Request place) e) in

@@ -1,10 +1,10 @@
 -- Laws of lines: a cursor at the start of a line, and where the line ends. What is left of the text from the cursor on is `drop at text`.
 -- Assumes nothing.
-use Rattle.std.specs.Prelude.{◌≡◌, refl, Bool, true, false, not, ◌&&◌, List, [], ◌∷◌, ◌++◌, ℕ, suc, ◌+◌, ◌-◌, ◌≤◌, ◌<◌, eqb, length, get_or, take, drop}
-use Rattle.std.proofs.Common.{ap, ◌∙◌, ⊎_elim, add-one, arith, length-drop, drop_of_length-le, drop-drop, drop-cons, eqb-true, eq-eqb, ne_eqb}
-use Rattle.std.proofs.lemmas.Bool.{eqb-false, not-true}
+use Rattle.std.specs.Prelude.{◌≡◌, refl, Bool, true, false, not, ◌&&◌, List, [], ◌∷◌, ◌++◌, ℕ, suc, ◌+◌, ◌-◌, ◌≤◌, ◌<◌, None, Some, eqb, length, get_or, take, drop}
+use Rattle.std.proofs.Common.{sym, ap, ◌∙◌, ⊎_elim, add-one, arith, length-drop, length-take-le, drop_of_length-le, drop-drop, drop-cons, eqb-true, eq-eqb, ne_eqb}
+use Rattle.std.proofs.lemmas.Bool.{eqb-false, not-true, cases_lt}
 use Rattle.theory.proofs.Laws.Tests.{and_left, and_right, test}
-use Rattle.text.specs.Lines.{LINE_END, Lines, none, endless, line, onto, lines, span}
+use Rattle.text.specs.Lines.{LINE_END, Lines, none, endless, line, onto, lines, first_ended, span}
 
 span_le : (l : List ℕ) → span l ≤ length l
 span_le [] = omega arith
@@ -41,6 +41,14 @@ lines_endless (b ∷ d ∷ text) h k =
     rw (t, lines_endless (d ∷ text) (omega arith) (omega arith)))
     (test (eqb b LINE_END))
 
+-- the same by the first line alone, where it has its 0A
+pub first_here : (l : List ℕ) → span l < length l → first_ended (lines l) ≡ Some (take (span l) l)
+first_here l h = ap first_ended (lines_ended l h)
+
+pub first_none : (l : List ℕ) → length l ≤ span l → first_ended (lines l) ≡ None
+first_none [] h = refl
+first_none (b ∷ l) h = ap first_ended (lines_endless (b ∷ l) (omega arith) h)
+
 -- ---- the line from a cursor on, which ends at e
 
 module _ (text : List ℕ) (at e : ℕ) (ends : e ≡ at + span (drop at text)) where
@@ -59,6 +67,44 @@ module _ (text : List ℕ) (at e : ℕ) (ends : e ≡ at + span (drop at text)) 
 
   pub end_le : at ≤ length text → e ≤ length text
   end_le h = omega (arith, span_le (drop at text), length-drop at text)
+
+-- ---- the line from a cursor on, where it has its 0A, and where it has none
+
+module _ (text : List ℕ) (at : ℕ) where
+  module _ (l : List ℕ) (is : Some l ≡ first_ended (lines (drop at text))) where
+    size_here : span (drop at text) < length (drop at text) → (l ≡ take (span (drop at text)) (drop at text)) × (length l ≡ span (drop at text))
+    size_here h =
+        let e : Some l ≡ Some (take (span (drop at text)) (drop at text)) = is ∙ first_here (drop at text) h in
+        let f : l ≡ take (span (drop at text)) (drop at text) = cc in
+        (f, ap length f ∙ length-take-le (span (drop at text)) (drop at text) (omega arith))
+
+    -- this line, and the lines after its 0A
+    pub first_line : (lines (drop at text) ≡ line l (lines (drop (at + length l + 1) text))) × (at + length l < length text)
+    first_line =
+        ⊎_elim
+        (λ (h : span (drop at text) < length (drop at text)).
+        let s = size_here h in
+        let k : at + suc (span (drop at text)) ≡ at + length l + 1 = omega (arith, s.1) in (
+          lines_ended (drop at text) h
+              ∙ ap (λ (x : List ℕ). line x (lines (drop (suc (span (drop at text))) (drop at text)))) (sym s.0)
+              ∙ ap (λ (x : List ℕ). line l (lines x)) (drop-drop (suc (span (drop at text))) at text ∙ ap (λ (n : ℕ). drop n text) k),
+          omega (arith, length-drop at text, s.1, h),
+        ))
+        (λ (h : length (drop at text) ≤ span (drop at text)). let e : Some l ≡ None = is ∙ first_none (drop at text) h in absurd (cc))
+        (cases_lt (span (drop at text)) (length (drop at text)))
+
+    -- the same, where the cursor goes on by the line and its 0A
+    pub next_line : lines (drop at text) ≡ line l (lines (drop (at + (length l + 1)) text))
+    next_line = let e : at + length l + 1 ≡ at + (length l + 1) = omega arith in first_line.0 ∙ ap (λ (n : ℕ). line l (lines (drop n text))) e
+
+  -- a last line, which has none
+  pub last_line : None ≡ first_ended (lines (drop at text)) → at < length text → lines (drop at text) ≡ endless (drop at text)
+  last_line is h =
+      ⊎_elim
+      (λ (k : span (drop at text) < length (drop at text)).
+      let e : None ≡ Some (take (span (drop at text)) (drop at text)) = is ∙ first_here (drop at text) k in absurd (cc))
+      (λ (k : length (drop at text) ≤ span (drop at text)). lines_endless (drop at text) (omega (arith, length-drop at text)) k)
+      (cases_lt (span (drop at text)) (length (drop at text)))
 
 -- ---- one character on
 

@@ -8,40 +8,10 @@ use native.Mathlib.Omega.{arith}
 use Rattle.theory.specs.Numbers.{BODY_EVENTS, BODY_CONDITIONS}
 use Rattle.theory.specs.Below.{first_below}
 use Rattle.theory.specs.Sheet.{Trigger, of_roles}
-use Rattle.theory.proofs.Laws.FirstBad.{no_event, many_events, many_conditions, bad_event, bad_condition, bad_last}
+use Rattle.theory.proofs.Laws.FirstBad.{bad_event, bad_condition, bad_last}
 use Rattle.tables.specs.Layout.{TRIGGER_BYTES, byte_at, trigger_from, trigger_at}
 use Rattle.tables.proofs.Laws.{event_count_byte, condition_count_byte}
 use Rattle.trigger_limits.proofs.first_bad_trigger.Goals as goal
-
-pub returns-then-n-lt1 : goal.returns-then-n-lt1
-unfolding trigger_from
-returns-then-n-lt1 c =
-    let a = c.args in
-    let T : List ℕ = a.table.now in
-    let g : Trigger = trigger_at T a.i in
-    let n = c.trigger_byte-n.ensures ∙ event_count_byte T a.i in
-    no_event a.roles g (omega (arith, c.if-n-lt1.true, n))
-
-pub returns-then-n-gt-BODY_EVENTS : goal.returns-then-n-gt-BODY_EVENTS
-unfolding trigger_from
-returns-then-n-gt-BODY_EVENTS c =
-    let a = c.args in
-    let T : List ℕ = a.table.now in
-    let g : Trigger = trigger_at T a.i in
-    let n = c.trigger_byte-n.ensures ∙ event_count_byte T a.i in
-    many_events a.roles g (omega (arith, c.if-n-lt1.false, n)) (omega (arith, c.if-n-gt-BODY_EVENTS.true, n))
-
-pub returns-then-m-gt-BODY_CONDITIONS : goal.returns-then-m-gt-BODY_CONDITIONS
-unfolding trigger_from
-returns-then-m-gt-BODY_CONDITIONS c =
-    let a = c.args in
-    let T : List ℕ = a.table.now in
-    let g : Trigger = trigger_at T a.i in
-    let n = c.trigger_byte-n.ensures ∙ event_count_byte T a.i in
-    let m = c.trigger_byte-m.ensures ∙ condition_count_byte T a.i in
-    let some : 1 ≤ g.event_count = omega (arith, c.if-n-lt1.false, n) in
-    let few : g.event_count ≤ BODY_EVENTS = omega (arith, c.if-n-gt-BODY_EVENTS.false, n) in
-    many_conditions a.roles g some few (omega (arith, c.if-m-gt-BODY_CONDITIONS.true, m))
 
 pub returns-then-e-n : goal.returns-then-e-n
 unfolding trigger_from

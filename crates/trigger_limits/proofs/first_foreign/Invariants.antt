@@ -2,7 +2,7 @@
 -- Assumes nothing.
 use mathlib.Core.Path.{◌≡◌}
 use mathlib.Core.Bool.{not}
-use Prim.Native.Nat.{◌+◌, ◌-◌, ◌≤◌}
+use Prim.Native.Nat.{◌+◌}
 use Rattle.theory.specs.Below.{first_below}
 use Rattle.theory.specs.Sheet.{of_roles}
 use Rattle.tables.specs.Layout.{byte_at}
@@ -10,8 +10,4 @@ use Rattle.trigger_limits.proofs.first_foreign.Given as goal
 
 abbrev pub invariant-loop-j : goal.invariant-loop-j
 invariant-loop-j l =
-    (l.j ≤ l.n) × (first_below l.j (λ x. not (of_roles l.roles (byte_at l.table (l.at + x)))) ≡ l.j)
-
-abbrev pub decreases-loop-j : goal.decreases-loop-j
-decreases-loop-j l =
-    l.n - l.j
+    first_below l.j (λ x. not (of_roles l.roles (byte_at l.table (l.at + x)))) ≡ l.j

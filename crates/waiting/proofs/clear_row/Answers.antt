@@ -2,20 +2,15 @@
 -- Assumes nothing.
 use mathlib.Core.Path.{refl, ◌∙◌}
 use native.Mathlib.Omega.{arith}
-use Rattle.masks.specs.Laws.Joins.{writes_none, writes_next, writes_end}
-use borrow.Author.Rules.{rules}
+use Rattle.masks.specs.Laws.Joins.{writes_none, writes_next}
 use Rattle.waiting.proofs.clear_row.Goals as goal
 
 pub loop-e-init : goal.loop-e-init
 loop-e-init c =
-    (search rules, refl, writes_none _ _ _)
+    (refl, writes_none _ _ _)
 
 pub loop-e-preserved : goal.loop-e-preserved
 loop-e-preserved c =
     let s = c.store in
     let l = c.loop-e in
-    (search rules, s.auto.buffer ∙ l.invariant.1, writes_next _ _ _ _ _ _ _ _ l.invariant.2 (omega (arith, c.place.ensures)) refl s.ensures)
-
-pub returns : goal.returns
-returns c =
-    writes_end _ _ _ 128 _ _ (search rules) (search rules) c.loop-e.invariant.2
+    (s.auto.buffer ∙ l.invariant.0, writes_next _ _ _ _ _ _ _ _ l.invariant.1 (omega (arith, c.place.ensures)) refl s.ensures)

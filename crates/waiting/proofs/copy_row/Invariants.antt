@@ -1,7 +1,6 @@
 -- `waiting::copy_row` meets its contract. The loop's invariant: the first e numbers of the row are copied.
 -- Assumes nothing.
 use mathlib.Core.Path.{◌≡◌}
-use Prim.Native.Nat.{◌-◌, ◌≤◌}
 use lib.ListN.{length, get_or}
 use Rattle.masks.specs.Joins.{writes}
 use Rattle.waiting.specs.Waiting.{place_of}
@@ -9,8 +8,4 @@ use Rattle.waiting.proofs.copy_row.Given as goal
 
 abbrev pub invariant-loop-e : goal.invariant-loop-e
 invariant-loop-e l =
-    (l.e ≤ 128) × (length l.events ≡ length l.initial.events) × (l.events ≡ writes l.initial.events 0 l.e (λ i. get_or l.waiting (place_of l.t i) 0))
-
-abbrev pub decreases-loop-e : goal.decreases-loop-e
-decreases-loop-e l =
-    128 - l.e
+    (length l.events ≡ length l.initial.events) × (l.events ≡ writes l.initial.events 0 l.e (λ i. get_or l.waiting (place_of l.t i) 0))

@@ -1,14 +1,14 @@
 -- Laws of what is put into the buffer, one text behind the other.
 -- Assumes nothing.
 use Rattle.std.specs.Prelude.{◌≡◌, refl, List, [], ◌++◌, ℕ, zero, suc, ◌+◌, ◌-◌, ◌*◌, ◌≤◌, ◌<◌, length, take, drop}
-use Rattle.std.proofs.Common.{sym, ap, ap₂, ◌∙◌, subst, add-one, arith, length-append, length-take-le}
+use Rattle.std.proofs.Common.{sym, ap, ap₂, ◌∙◌, subst, add-one, arith, length-append}
+use Rattle.std.proofs.Math.Nat.{mul-suc, mul-le-mul_left}
 use Rattle.std.proofs.Math.Seq.{paste, paste-zero, take-length}
-use Rattle.tables.specs.Layout.{PERIODIC_BYTES, TRIGGER_BYTES, byte_at}
-use Rattle.loops.specs.Laws.Levels.{length_tabulate}
+use Rattle.tables.specs.Layout.{byte_at}
 use Rattle.prints.specs.Print.{line_of}
-use Rattle.prints.specs.Laws.Lengths.{length_line}
 use Rattle.prints.specs.Laws.Pasted.{paste_append}
-use Rattle.writer.specs.Made.{periodic_frame, row_place, body_size, trigger_whole, body_frame, trigger_frame, text_below, periodic_text, trigger_text, Puts, FewInBodies}
+use Rattle.writer.specs.Long.{periodic_short, trigger_short}
+use Rattle.writer.specs.Made.{body_size, trigger_whole, body_frame, trigger_frame, text_below, periodic_text, trigger_text, Puts, FewInBodies}
 
 -- nothing was put yet
 pub puts_none : (d : List ℕ) (at : ℕ) → Puts d at [] d at
@@ -33,6 +33,10 @@ text_short w (suc n) line h =
     let m : length (text_below n line) ≤ w * n = text_short w n line (λ i l. h i (omega arith)) in
     omega (arith, length-append (text_below n line) (line n), h n (omega arith))
 
+-- one row more of the first n has room
+pub one_more : (w i n : ℕ) → i < n → w * i + w ≤ w * n
+one_more w i n h = let e : w * suc i ≡ w * i + w = mul-suc w i in omega (arith, e, mul-le-mul_left w h)
+
 -- one line more
 pub puts_next : (d d₁ d₂ : List ℕ) (at to end i : ℕ) (line : ℕ → List ℕ) → Puts d at (text_below i line) d₁ to → Puts d₁ to (line i) d₂ end
     → at + (length (text_below i line) + length (line i)) ≤ length d → Puts d at (text_below (i + 1) line) d₂ end
@@ -54,24 +58,6 @@ puts_front d text d' to x =
 pub puts_frame : (d : List ℕ) (at : ℕ) (f g d' : List ℕ) (to : ℕ) → f ≡ g → Puts d at (line_of f) d' to → Puts d at (line_of g) d' to
 puts_frame d at f g d' to e x = subst (λ (h : List ℕ). Puts d at (line_of h) d' to) e x
 
--- a periodic row's line has 37 bytes,
-pub periodic_long : (table : List ℕ) (i : ℕ) → length (periodic_text table i) ≡ 37
-periodic_long table i =
-    omega (arith, length_line (periodic_frame table (PERIODIC_BYTES * i)), length_tabulate PERIODIC_BYTES (λ k. byte_at table (PERIODIC_BYTES * i + k)))
-
--- and a trigger's 15 and two for each event and condition
-pub body_long : (table : List ℕ) (at e c : ℕ) → e ≤ 4 → c ≤ 4 → length (body_frame table at e c) ≡ body_size e c
-body_long table at e c h k =
-    length-take-le (body_size e c) (trigger_whole table at e c) (omega (arith, length_tabulate TRIGGER_BYTES (λ j. byte_at table (at + row_place e c (suc j)))))
-
-pub trigger_long : (table : List ℕ) (i : ℕ) → byte_at table (TRIGGER_BYTES * i) ≤ 4 → byte_at table (TRIGGER_BYTES * i + 1) ≤ 4 → length (trigger_text table i) ≤ 31
-unfolding trigger_frame
-trigger_long table i h k =
-    let at : ℕ = TRIGGER_BYTES * i in
-    let e : ℕ = byte_at table at in
-    let c : ℕ = byte_at table (at + 1) in
-    omega (arith, length_line (trigger_frame table at), body_long table at e c h k)
-
 -- a count, read where the row begins, in other words
 pub count_said : (table : List ℕ) (from at x e : ℕ) → from ≡ at → x ≡ byte_at table from → e ≡ x → e ≡ byte_at table at
 count_said table from at x e f b h = h ∙ b ∙ ap (byte_at table) f
@@ -88,7 +74,7 @@ unfolding trigger_frame
 body_said table from at e c f p q i = body_frame table (f i) (p i) (q i)
 
 pub periodics_short : (table : List ℕ) (n : ℕ) → length (text_below n (periodic_text table)) ≤ 37 * n
-periodics_short table n = text_short 37 n (periodic_text table) (λ i l. omega (arith, periodic_long table i))
+periodics_short table n = text_short 37 n (periodic_text table) (λ i l. periodic_short table i _)
 
 pub triggers_short : (table : List ℕ) (n : ℕ) → FewInBodies table n → length (text_below n (trigger_text table)) ≤ 31 * n
-triggers_short table n few = text_short 31 n (trigger_text table) (λ i l. trigger_long table i (few i l).0 (few i l).1)
+triggers_short table n few = text_short 31 n (trigger_text table) (λ i l. trigger_short table i (few i l))

@@ -5,29 +5,32 @@ use Rattle.writer.proofs.Laws.Room.{few_bodies, room_periodics, room_triggers, r
 use borrow.Author.Rules.{rules as search_rules}
 use Rattle.writer.proofs.put_sheet.Goals as goal
 
-pub put_periodics-b-requires : goal.put_periodics-b-requires
-put_periodics-b-requires c =
+pub put_rows-b-requires-clause-room : goal.put_rows-b-requires-clause-room
+put_rows-b-requires-clause-room c =
     let a = c.args in
     let R = rules a.counts a.periodics.now a.triggers.now in
-    let room = room_periodics R c.requires.1 _ c.requires.0 _ _ _ c.header_frame-first.ensures c.put-a.ensures in
-    (search search_rules, search search_rules)
+    room_periodics R c.requires _ (search search_rules) _ _ _ c.header_frame-first.ensures c.put-a.ensures
 
-pub put_triggers-c-requires : goal.put_triggers-c-requires
-put_triggers-c-requires c =
+pub put_rows-c-requires-clause-room : goal.put_rows-c-requires-clause-room
+put_rows-c-requires-clause-room c =
     let a = c.args in
     let R = rules a.counts a.periodics.now a.triggers.now in
-    let room = room_triggers R c.requires.1 _ c.requires.0 _ _ _ c.header_frame-first.ensures c.put-a.ensures _ _ c.put_periodics-b.ensures in
-    (search search_rules, (search search_rules, few_bodies R c.requires.1))
+    room_triggers R c.requires _ (search search_rules) _ _ _ c.header_frame-first.ensures c.put-a.ensures _ _ c.put_rows-b.ensures
+
+pub put_rows-c-requires-clause-good : goal.put_rows-c-requires-clause-good
+put_rows-c-requires-clause-good c =
+    let a = c.args in
+    few_bodies (rules a.counts a.periodics.now a.triggers.now) c.requires
 
 pub put-requires : goal.put-requires
 put-requires c =
     let a = c.args in
     let R = rules a.counts a.periodics.now a.triggers.now in
-    let room = room_end R c.requires.1 _ c.requires.0 _ _ _ c.header_frame-first.ensures c.put-a.ensures _ _ c.put_periodics-b.ensures _ _ c.put_triggers-c.ensures in
-    (search search_rules, search search_rules)
+    let room = room_end R c.requires _ (search search_rules) _ _ _ c.header_frame-first.ensures c.put-a.ensures _ _ c.put_rows-b.ensures _ _ c.put_rows-c.ensures in
+    search search_rules
 
 pub returns : goal.returns
 returns c =
     let a = c.args in
     let R = rules a.counts a.periodics.now a.triggers.now in
-    with_end_lem R c.requires.1 _ c.requires.0 _ _ _ c.header_frame-first.ensures c.put-a.ensures _ _ c.put_periodics-b.ensures _ _ c.put_triggers-c.ensures _ _ _ c.end_frame-last.ensures c.put.ensures
+    with_end_lem R c.requires _ (search search_rules) _ _ _ c.header_frame-first.ensures c.put-a.ensures _ _ c.put_rows-b.ensures _ _ c.put_rows-c.ensures _ _ _ c.end_frame-last.ensures c.put.ensures

@@ -1,27 +1,19 @@
--- `writer::trigger_whole` meets its contract: the calls in a line are the definition's list.
+-- `writer::trigger_whole` meets its contract: the kind, then a call for each byte that the frame has at most.
 -- Assumes nothing.
-use Rattle.loops.specs.Tested.{tabulate}
+use Prim.Native.Nat.{ℕ, suc, ◌+◌}
+use mathlib.Core.Path.{refl, ◌∙◌}
+use borrow.Author.Tests.{tests}
+use Rattle.tables.specs.Layout.{byte_at, TRIGGER_BYTES}
+use Rattle.std.specs.Prelude.{eqb}
+use mathlib.Core.Bool.{cond}
+use Rattle.writer.specs.Made.{row_place}
 use Rattle.kinds.specs.Kinds.{TRIGGER}
-use mathlib.Core.List.{[], ◌∷◌}
-use native.Mathlib.Omega.{arith}
+use Rattle.writer.proofs.Laws.Frames.{made_by_calls, after_kind}
+use borrow.Author.Rules.{rules}
 use Rattle.writer.proofs.trigger_whole.Goals as goal
 
-pub trigger_place-requires-11 : goal.trigger_place-requires-11
-trigger_place-requires-11 c =
-    let p = c.requires in
-    (p.0, (p.1.0, (p.1.1, (omega arith, omega arith))))
-
-pub trigger_place-requires-12 : goal.trigger_place-requires-12
-trigger_place-requires-12 c =
-    let p = c.requires in
-    (p.0, (p.1.0, (p.1.1, (omega arith, omega arith))))
-
-pub trigger_place-requires-13 : goal.trigger_place-requires-13
-trigger_place-requires-13 c =
-    let p = c.requires in
-    (p.0, (p.1.0, (p.1.1, (omega arith, omega arith))))
-
 pub returns : goal.returns
-unfolding tabulate
 returns c =
-    λ i. TRIGGER ∷ c.trigger_place.ensures i ∷ c.trigger_place-2.ensures i ∷ c.trigger_place-3.ensures i ∷ c.trigger_place-4.ensures i ∷ c.trigger_place-5.ensures i ∷ c.trigger_place-6.ensures i ∷ c.trigger_place-7.ensures i ∷ c.trigger_place-8.ensures i ∷ c.trigger_place-9.ensures i ∷ c.trigger_place-10.ensures i ∷ c.trigger_place-11.ensures i ∷ c.trigger_place-12.ensures i ∷ c.trigger_place-13.ensures i ∷ []
+    let a = c.args in
+    let r : ℕ → ℕ = λ k. byte_at a.table.now (a.at + row_place a.e a.c k) in
+    made_by_calls _ _ (λ k. cond (eqb k 0) TRIGGER (r k)) (λ k y q d. search (rules, tests)) _ _ c.from_fn.ensures.items ∙ after_kind TRIGGER TRIGGER_BYTES r (λ k. r (suc k)) (λ k. refl)

@@ -1,24 +1,38 @@
 -- `writer::write_sheet` meets its contract: by the verdict the sheet is put into the buffer, or nothing is.
 -- Assumes nothing.
-use mathlib.Core.Path.{sym, ◌∙◌}
+use mathlib.Core.Path.{sym, subst, ◌∙◌}
+use Rattle.std.specs.Prelude.{Result}
+use Prim.Native.Nat.{ℕ}
+use Rattle.answers.specs.declared.Refusal.{Refusal}
+use Rattle.answers.proofs.Laws.{handed_on}
 use Rattle.tables.specs.Lent.{rules}
+use Rattle.writer.specs.Outcome.{WriteOutcome}
 use Rattle.writer.proofs.Laws.Exact.{passes_say, passes_good, was_passed, was_refused}
 use Rattle.writer.proofs.write_sheet.Goals as goal
 
-pub put_sheet-n-requires : goal.put_sheet-n-requires
-put_sheet-n-requires c =
+pub unwrap-whole-requires : goal.unwrap-whole-requires
+unwrap-whole-requires c =
     let a = c.args in
     let R = rules a.counts a.periodics.now a.triggers.now in
-    let p = sym c.judge_writing-verdict.ensures ∙ c.in-Pass.is in
-    ((passes_say R _ p).buffer, (passes_good R _ p).0)
+    let p = sym c.judge_writing.ensures ∙ c.in_ok-judge_writing.was in
+    c.as_mut_array.ensures.variant.1 (passes_say R _ p).buffer
 
-pub returns-in-Pass : goal.returns-in-Pass
-returns-in-Pass c =
+pub put_sheet-requires : goal.put_sheet-requires
+put_sheet-requires c =
     let a = c.args in
     let R = rules a.counts a.periodics.now a.triggers.now in
-    was_passed R _ _ c.judge_writing-verdict.ensures c.in-Pass.is (λ i. (c.shared_slice_known-1.given i).fits) (λ i. (c.shared_slice_known-2-1.given i).fits) _ _ c.put_sheet-n.ensures
+    (passes_good R _ (sym c.judge_writing.ensures ∙ c.in_ok-judge_writing.was)).0
 
-pub returns-in-Refused : goal.returns-in-Refused
-returns-in-Refused c =
+pub returns : goal.returns
+returns c =
     let a = c.args in
-    was_refused (rules a.counts a.periodics.now a.triggers.now) _ _ c.judge_writing-verdict.ensures _ c.in-Refused.is _ c.refused.ensures
+    let R = rules a.counts a.periodics.now a.triggers.now in
+    let whole = (rw c.unwrap-whole.ensures at c.as_mut_array.ensures.cases).same in
+    was_passed R _ _ c.judge_writing.ensures c.in_ok-judge_writing.was (λ i. (c.type_inv.periodics i).fits) (λ i. (c.type_inv.triggers i).fits) _ _ (rw whole at c.put_sheet.ensures)
+
+pub returns-in_err-judge_writing : goal.returns-in_err-judge_writing
+returns-in_err-judge_writing c =
+    let a = c.args in
+    let R = rules a.counts a.periodics.now a.triggers.now in
+    subst (λ (r : Result ℕ Refusal). WriteOutcome R a.out.now r a.out.now) (sym (handed_on _ _ c.from_residual.ensures.1))
+    (was_refused R _ _ c.judge_writing.ensures _ c.in_err-judge_writing.was)

@@ -1,0 +1,2 @@
+-- What is proved of the pairs of a line's characters.
+pub mod Pairs

@@ -1,0 +1,2 @@
+-- What is proved of the bytes of a row.
+pub mod Bytes
