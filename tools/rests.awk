@@ -170,7 +170,7 @@ FNR == 1 {
     sub(/\/src\/.*/, "/src", file)
     sub(/\.antt$/, "", file)
     file = short(file)
-    if (FILENAME ~ /\.antt$/ && file in path_at) amiss(FILENAME ": " path_at[file] " has the same name, " file)
+    if (FILENAME ~ /\.antt$/ && file in path_at && FILENAME !~ /\/Laws\.antt$/) amiss(FILENAME ": " path_at[file] " has the same name, " file)
     if (FILENAME ~ /\.antt$/) path_at[file] = FILENAME
     place = key = ""
     deep = 0
@@ -528,7 +528,6 @@ BEGIN {
     # proofs that stand among definitions, and why
     excuse["claims/Demands" SUBSEP "*"] = "the theorems that an auditor reads first"
     excuse["claims/Functions" SUBSEP "*"] = "the theorems of every public function"
-    excuse["writer/Long" SUBSEP "*"] = "the laws that an impl of the code names, which can name none of proofs/"
 }
 
 END {

@@ -69,6 +69,7 @@ pub fn refuse(name: Name, place: u32) -> Verdict
 }
 
 // A later test is asked only where those before it pass.
+// Kept: `Result::and` by another name, for its definition is the order of the tests of a step and of the tables (`judge_step`, `judge_tables`).
 pub fn and_then(first: Verdict, later: Verdict) -> Verdict
     ensures { result ≡ and_then first later }
 {
@@ -77,6 +78,7 @@ pub fn and_then(first: Verdict, later: Verdict) -> Verdict
 }
 
 // Document 01's number of a refusal.
+// Kept: a function and no `From`, for claims/Functions has its theorem and the demands speak of it by this name.
 pub fn number_of(name: Name) -> u8
     ensures { result ≡ number_of name }
 {

@@ -24,8 +24,9 @@ use Rattle.faulty_line.specs.Part.{faulty_part, shown}
 use Rattle.tables.specs.Asked.{flat, request_at}
 use Rattle.tables.specs.Buffers.{bit, events_of, roles_of}
 use Rattle.tables.specs.declared.Counts.{Counts}
+use Rattle.tables.specs.declared.Rules.{Rules}
 use Rattle.tables.specs.Layout.{TRIGGER_BYTES, byte_at, four, periodic_at, sheet_of, trigger_at, triggers_of, two}
-use Rattle.tables.specs.Lent.{rules, sheet_in, Lent, lent}
+use Rattle.tables.specs.Lent.{rules_of, sheet_in, Lent, lent}
 use Rattle.periodics.specs.declared.PeriodicRow.{PeriodicRow}
 use Rattle.periodics.specs.Rows.{periodic_of}
 use Rattle.masks.specs.Joins.{joined_where, joins}
@@ -308,8 +309,8 @@ loops_loop_test triggers n r r' = exact
 -- ---- row_judge
 
 -- row_judge::rows_judged
-pub row_judge_rows_judged : (counts : Counts) (periodics triggers : List ℕ) → Exact (λ r. r ≡ judge_rows (sheet_in (rules counts periodics triggers)))
-row_judge_rows_judged counts periodics triggers r r' = exact
+pub row_judge_rows_judged : (given : Rules) → Exact (λ r. r ≡ judge_rows (sheet_in (rules_of given)))
+row_judge_rows_judged given r r' = exact
 
 -- ---- table_judge
 
@@ -318,8 +319,8 @@ pub table_judge_loop_judged : (triggers : List ℕ) (n : ℕ) → Exact (λ r. r
 table_judge_loop_judged triggers n r r' = exact
 
 -- table_judge::judge
-pub table_judge_judge : (counts : Counts) (periodics triggers : List ℕ) → Exact (λ r. r ≡ judged (sheet_in (rules counts periodics triggers)))
-table_judge_judge counts periodics triggers r r' = exact
+pub table_judge_judge : (given : Rules) → Exact (λ r. r ≡ judged (sheet_in (rules_of given)))
+table_judge_judge given r r' = exact
 
 -- ---- text
 
@@ -461,8 +462,8 @@ reader_read_sheet = reader.read_sheet_exact
 -- ---- writer
 
 -- writer::write_sheet
-pub writer_write_sheet : (counts : Counts) (periodics triggers out : List ℕ) → Exact₂ (λ r out'. WriteOutcome (rules counts periodics triggers) out r out')
-writer_write_sheet counts periodics triggers out = writer.write_exact (rules counts periodics triggers) out
+pub writer_write_sheet : (given : Rules) (out : List ℕ) → Exact₂ (λ r out'. WriteOutcome (rules_of given) out r out')
+writer_write_sheet given out = writer.write_exact (rules_of given) out
 
 -- ---- masks
 
@@ -571,10 +572,10 @@ asked_wait_asked waiting asked n t l l' = exact
 -- ---- instant
 
 -- instant::act
-pub instant_act : (counts : Counts) (periodics triggers asked : List ℕ) (m : ℕ) (levels : List ℕ) (instant enabled : ℕ) (waiting events : List ℕ) → (role_count : ℕ) → length events ≡ EVENTS → GoodOrder (sheet_of role_count counts.periodics counts.triggers periodics triggers) → Levels (sheet_of role_count counts.periodics counts.triggers periodics triggers) (byte_at levels)
-    → Exact₄ (λ instant' enabled' waiting' events'. Acted (rules counts periodics triggers) (flat asked m) levels (lent instant enabled waiting events) (lent instant' enabled' waiting' events'))
-instant_act counts periodics triggers asked m levels instant enabled waiting events role_count size good rule =
-    parts' _ (λ a a'. act.act_exact (rules counts periodics triggers) (flat asked m) levels (lent instant enabled waiting events) a a' role_count size good rule)
+pub instant_act : (given : Rules) (asked : List ℕ) (m : ℕ) (levels : List ℕ) (instant enabled : ℕ) (waiting events : List ℕ) → (role_count : ℕ) → length events ≡ EVENTS → GoodOrder (sheet_of role_count given.counts.periodics given.counts.triggers given.periodics.now given.triggers.now) → Levels (sheet_of role_count given.counts.periodics given.counts.triggers given.periodics.now given.triggers.now) (byte_at levels)
+    → Exact₄ (λ instant' enabled' waiting' events'. Acted (rules_of given) (flat asked m) levels (lent instant enabled waiting events) (lent instant' enabled' waiting' events'))
+instant_act given asked m levels instant enabled waiting events role_count size good rule =
+    parts' _ (λ a a'. act.act_exact (rules_of given) (flat asked m) levels (lent instant enabled waiting events) a a' role_count size good rule)
 
 -- ---- step_tests
 
@@ -585,16 +586,16 @@ step_tests_judge_first periodics triggers waiting events t n r r' = exact
 -- ---- step
 
 -- step::step
-pub step_step : (counts : Counts) (periodics triggers asked : List ℕ) (n instant enabled : ℕ) (waiting events : List ℕ)
-    → Exact₅ (λ r instant' enabled' waiting' events'. Outcome (rules counts periodics triggers) (flat asked n) (lent instant enabled waiting events) r (lent instant' enabled' waiting' events'))
-step_step counts periodics triggers asked n instant enabled waiting events = parts _ (Step.step_exact (rules counts periodics triggers) (flat asked n) (lent instant enabled waiting events))
+pub step_step : (given : Rules) (asked : List ℕ) (n instant enabled : ℕ) (waiting events : List ℕ)
+    → Exact₅ (λ r instant' enabled' waiting' events'. Outcome (rules_of given) (flat asked n) (lent instant enabled waiting events) r (lent instant' enabled' waiting' events'))
+step_step given asked n instant enabled waiting events = parts _ (Step.step_exact (rules_of given) (flat asked n) (lent instant enabled waiting events))
 
 -- ---- entry
 
 -- entry::step_requests
-pub entry_step_requests : (counts : Counts) (periodics triggers : List ℕ) (requests : List Request) (instant enabled : ℕ) (waiting events : List ℕ)
-    → Exact₅ (λ r instant' enabled' waiting' events'. Outcome (rules counts periodics triggers) (listed requests) (lent instant enabled waiting events) r (lent instant' enabled' waiting' events'))
-entry_step_requests counts periodics triggers requests instant enabled waiting events = parts _ (entry.step_requests_exact (rules counts periodics triggers) requests (lent instant enabled waiting events))
+pub entry_step_requests : (given : Rules) (requests : List Request) (instant enabled : ℕ) (waiting events : List ℕ)
+    → Exact₅ (λ r instant' enabled' waiting' events'. Outcome (rules_of given) (listed requests) (lent instant enabled waiting events) r (lent instant' enabled' waiting' events'))
+entry_step_requests given requests instant enabled waiting events = parts _ (entry.step_requests_exact (rules_of given) requests (lent instant enabled waiting events))
 
 -- ---- tape_frames
 
@@ -646,9 +647,9 @@ resend_resend = resend.resend_exact
 -- ---- day_minute
 
 -- day_minute::day_minute
-pub day_minute_day_minute : (counts : Counts) (periodics triggers tape : List ℕ) (at instant enabled : ℕ) (waiting events : List ℕ)
-    → Exact₅ (λ r instant' enabled' waiting' events'. MinuteOutcome (rules counts periodics triggers) tape at (lent instant enabled waiting events) r (lent instant' enabled' waiting' events'))
-day_minute_day_minute counts periodics triggers tape at instant enabled waiting events = parts _ (day-minute.day_minute_exact (rules counts periodics triggers) tape at (lent instant enabled waiting events))
+pub day_minute_day_minute : (given : Rules) (tape : List ℕ) (at instant enabled : ℕ) (waiting events : List ℕ)
+    → Exact₅ (λ r instant' enabled' waiting' events'. MinuteOutcome (rules_of given) tape at (lent instant enabled waiting events) r (lent instant' enabled' waiting' events'))
+day_minute_day_minute given tape at instant enabled waiting events = parts _ (day-minute.day_minute_exact (rules_of given) tape at (lent instant enabled waiting events))
 
 -- ---- day_print
 
@@ -667,8 +668,8 @@ day_print_day = day-print.day_exact
 -- reach::closed asks `whole_rows edges`: the type of the code says it.
 -- edges::draw asks `whole_rows rows`: the type of the code says it.
 -- instant::act asks `length events ≡ EVENTS`: it hands out what the solver makes, which promises a solution there alone.
--- instant::act asks `GoodOrder (sheet_of role_count counts.periodics counts.triggers periodics triggers)`: likewise.
--- instant::act asks `Levels (sheet_of role_count counts.periodics counts.triggers periodics triggers) (byte_at levels)`: likewise.
+-- instant::act asks `GoodOrder (sheet_of role_count given.counts.periodics given.counts.triggers given.periodics.now given.triggers.now)`: likewise.
+-- instant::act asks `Levels (sheet_of role_count given.counts.periodics given.counts.triggers given.periodics.now given.triggers.now) (byte_at levels)`: likewise.
 
 -- ==== WHAT SOME ASK. These are public only because a crate ends there: each asks something of its callers, the functions named, which have shown it. Each is exact as it stands above,
 -- whatever it is called with. Whoever uses the box calls reader::read_sheet, writer::write_sheet, step::step, entry::step_requests, resend::resend,
@@ -678,13 +679,16 @@ day_print_day = day-print.day_exact
 -- keys::chains asks for at most 256 triggers: solver::by_keys.
 -- keys::next asks for a key below 257: solver::by_keys.
 -- turns::settle asks for a key that is not 0, and chained triggers: solver::by_keys. (That the events are 128 numbers, their type says.)
--- requests::put asks for a place below 32: entry::flatten.
--- sheet_acts::act asks for room for the frame's row and for tables of their lengths: reader::take, once the line's tests passed.
+-- requests::put asks for a place below 32: entry::flatten, tape_batches::take_batch.
+-- line_readers::walk asks for at most so many bytes that its reader may read as many lines more: reader::read_within and tape::read_tape, once LENGTH was tested.
+-- sheet_acts::act asks for room for the frame's row: reader::SheetReader::take, once the line's tests passed. (That the tables have their lengths, their type says.)
 -- instant::act asks for an instant that is not above the last: step::step_within, once LAST was tested.
 -- tape::read_tape asks for at most 65,536 bytes, and as many lines before them: day_input::open_tape, once LENGTH was tested.
 -- day_input::open asks for tables of zeros: day_print::print_day.
 
 -- ==== EXCEPTIONS: contracts that leave something open, and why.
+-- line_readers::walk has one answer and, where that is a pass, one that was read (`walk_one`, line_readers/Laws/Walks); what its reader holds after a refusal it leaves open: reader::read_within and
+-- tape::read_tape, which drop it, alone call it.
 -- solver::solve has one content where the rows are in good order and the levels meet the rule, as above. Elsewhere it promises the buffer's length alone. instant::act alone calls it, for what the
 -- judge has passed: a refusal of its own would be a second judge.
 -- instant::act likewise is exact where the solver is. step::step_within alone calls it, after the judge.

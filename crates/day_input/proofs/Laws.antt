@@ -17,6 +17,7 @@ use Rattle.day_split.specs.declared.Parts.{Parts}
 use Rattle.day_split.specs.Split.{sheet_bytes, sheet_lines}
 use Rattle.day_split.specs.Parted.{parted}
 use Rattle.tape_tests.specs.declared.Heard.{Heard}
+use Rattle.tape_tests.specs.Tests.{last_instant}
 use Rattle.tape.specs.Tape.{tape_read}
 use Rattle.tape.specs.Took.{took}
 use Rattle.tape.specs.Laws.Line.{went, stopped}
@@ -28,7 +29,7 @@ pub mod Exact
 -- ---- the tape
 
 module _ (tape : List ℕ) (counts : Counts) (from before : ℕ) (w : Result Heard Refusal) (is : took w ≡ tape_read counts.roles before tape) where
-  pub tape_goes : (s : Heard) → w ≡ Ok s → Ok (record { counts = counts; from = from; last = s.last }) ≡ by_tape tape counts from before
+  pub tape_goes : (s : Heard) → w ≡ Ok s → Ok (record { counts = counts; from = from; last = last_instant s }) ≡ by_tape tape counts from before
   unfolding by_tape by_heard
   tape_goes s h = ap (by_heard counts from) (went w _ s is h)
 

@@ -15,6 +15,7 @@ use Rattle.reader.specs.Out.{ReadOutcome}
 use Rattle.reader.specs.Reading.{reading}
 use Rattle.day_split.specs.Split.{sheet_part, tape_part, sheet_lines}
 use Rattle.tape_tests.specs.declared.Heard.{Heard}
+use Rattle.tape_tests.specs.Tests.{last_instant}
 use Rattle.tape.specs.Tape.{tape_read, asks_in}
 use Rattle.tables.specs.declared.Counts.{Counts}
 
@@ -29,7 +30,7 @@ pub data Opening : Type 0 where
 
 -- by what came of the tape, whose lines these are
 unfoldable pub after_tape : Sheet → Lines → Going Heard → Opening
-after_tape sh ls (goes s) = opens sh (asks_in ls) s.last
+after_tape sh ls (goes s) = opens sh (asks_in ls) (last_instant s)
 after_tape sh ls (walk.refused r) = refused r
 
 -- by what came of the sheet, and the tables that it was read into

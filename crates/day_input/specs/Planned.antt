@@ -10,6 +10,7 @@ use Rattle.tables.specs.Lent.{Tables, tables_of, rules, sheet_in}
 use Rattle.line_readers.specs.Walks.{Going, goes, refused}
 use Rattle.day_split.specs.Split.{sheet_bytes, sheet_lines, tape_part}
 use Rattle.tape_tests.specs.declared.Heard.{Heard}
+use Rattle.tape_tests.specs.Tests.{last_instant}
 use Rattle.tape.specs.Tape.{tape_read, asks_in}
 use Rattle.day_input.specs.declared.Plan.{Plan}
 use Rattle.day_input.specs.Opening.{INPUT_BYTES, Opening, opens, sheet_reading}
@@ -28,7 +29,7 @@ Zeros p t = (p ≡ replicate PERIODIC_TABLE 0) × (t ≡ replicate TRIGGER_TABLE
 
 -- by what came of the tape
 unfoldable pub by_heard : Counts → ℕ → Going Heard → Result Plan Refusal
-by_heard counts from (goes s) = Ok (record { counts = counts; from = from; last = s.last })
+by_heard counts from (goes s) = Ok (record { counts = counts; from = from; last = last_instant s })
 by_heard counts from (refused x) = Err x
 
 unfoldable pub by_tape : List ℕ → Counts → ℕ → ℕ → Result Plan Refusal

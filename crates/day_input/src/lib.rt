@@ -28,7 +28,7 @@ fn open_tape(tape: &[u8], counts: Counts, from: usize, before: usize) -> Result<
     Ok(Plan {
         counts,
         from,
-        last: s.last,
+        last: s.end.unwrap_or(0),
     })
 }
 

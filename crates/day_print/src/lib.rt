@@ -12,7 +12,7 @@ ghost use Rattle.day_print.specs.Ready.{Ready};
 
 use answers::{Name, Refusal};
 use day_input::Plan;
-use tables::{EVENTS_NUMBERS, PERIODIC_TABLE, TRIGGER_TABLE, WAITING_NUMBERS};
+use tables::{EVENTS_NUMBERS, PERIODIC_TABLE, Rules, TRIGGER_TABLE, WAITING_NUMBERS};
 
 // The bytes of a minute's line.
 const LINE: usize = 31;
@@ -21,13 +21,18 @@ const LINE: usize = 31;
 const OUTPUT_BYTES: usize = 312511;
 
 // One line for each instant 0 to the last, of an input that opened.
+// Kept: the tables beside the plan, for the plan has their counts already, and `Ready` speaks of it.
 fn run(plan: Plan, periodics: &[u8], triggers: &[u8], tape: &[u8], out: &mut [u8])
     requires { Ready plan periodics.now triggers.now tape.now out.old }
     ensures { Written
         (rules plan.counts periodics.now triggers.now)
         tape.now (suc plan.last) out.old out.new }
 {
-    let counts = plan.counts;
+    let given = Rules {
+        counts: plan.counts,
+        periodics,
+        triggers,
+    };
     let last = plan.last;
     let mut waiting = [0u16; WAITING_NUMBERS];
     let mut events = [0u16; EVENTS_NUMBERS];
@@ -36,9 +41,7 @@ fn run(plan: Plan, periodics: &[u8], triggers: &[u8], tape: &[u8], out: &mut [u8
     let mut at: usize = 0;
     for t in 0..last + 1 {
         let turn = day_minute::day_minute(
-            counts,
-            periodics,
-            triggers,
+            &given,
             tape,
             at,
             &mut instant,

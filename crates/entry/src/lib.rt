@@ -3,13 +3,13 @@
 
 ghost use Rattle.std.specs.Prelude.{min, length};
 ghost use Rattle.theory.specs.Numbers.{REQUESTS};
-ghost use Rattle.tables.specs.Lent.{rules, lent};
+ghost use Rattle.tables.specs.Lent.{rules_of, lent};
 ghost use Rattle.step.specs.Outcome.{Outcome};
 ghost use Rattle.entry.specs.Listed.{listed, Holds};
 
 use answers::Verdict;
 use requests::{FLAT_NUMBERS, Request, put};
-use tables::Counts;
+use tables::Rules;
 use theory::REQUESTS;
 
 // The first 32 records as flat numbers.
@@ -25,10 +25,9 @@ fn flatten(requests: &[Request]) -> [u8; FLAT_NUMBERS]
 }
 
 // One step, of whatever is lent, with the requests as a list of records in any order; over 32 of them are TOO MANY.
+// Kept: what is lent to be changed goes part by part, as in `instant::act`.
 pub fn step_requests(
-    counts: Counts,
-    periodics: &[u8],
-    triggers: &[u8],
+    given: &Rules,
     requests: &[Request],
     instant: &mut u32,
     enabled: &mut u64,
@@ -36,7 +35,7 @@ pub fn step_requests(
     events: &mut [u16],
 ) -> Verdict
     ensures { Outcome
-        (rules counts periodics.now triggers.now)
+        (rules_of given.now)
         (listed requests.now)
         (lent instant.old enabled.old waiting.old events.old)
         result
@@ -44,7 +43,5 @@ pub fn step_requests(
 {
     let n = requests.len();
     let numbers = flatten(requests);
-    step::step(
-        counts, periodics, triggers, numbers, n, instant, enabled, waiting, events,
-    )
+    step::step(given, numbers, n, instant, enabled, waiting, events)
 }

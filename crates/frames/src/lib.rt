@@ -34,6 +34,7 @@ fn digit(c: u8) -> u8
 }
 
 // The same by tests, for a loop over a whole line: the compiler makes them of many characters at once.
+// Kept beside `digit`: a table is the faster for one character, tests for many at once.
 fn digit_by_tests(c: u8) -> u8
     ensures { result ≡ value c }
 {

@@ -5,10 +5,10 @@ ghost use Rattle.std.specs.Prelude.{◌≡◌, ◌≤◌};
 ghost use Rattle.theory.specs.Numbers.{LAST_INSTANT};
 ghost use Rattle.tables.specs.Asked.{flat};
 ghost use Rattle.tables.specs.Buffers.{roles_of, events_of};
-ghost use Rattle.tables.specs.Lent.{rules, lent};
+ghost use Rattle.tables.specs.Lent.{rules_of, lent};
 ghost use Rattle.instant.specs.Acted.{filled, refilled, Acted};
 
-use tables::Counts;
+use tables::Rules;
 
 // The givens of the instant t in the events buffer: what waits for it, what is due, the requests of delay 0.
 fn fill(events: &mut [u16], waiting: &[u16], periodics: &[u8], n: u16, asked: &[u8], m: u16, t: u32)
@@ -42,10 +42,9 @@ fn refill(
 
 // The instant's own work, once nothing is refused: the givens, the solution, what waits, the roles after, the next instant. (For the step alone, which has shown that an
 // instant follows.)
+// Kept: what is lent to be changed goes part by part. Of a struct of `&mut` parts `instant_act` (claims/Functions) could not say that two outcomes are equal, for it holds where they lie; one of arrays has no length that LENGTH refuses.
 pub fn act(
-    counts: Counts,
-    periodics: &[u8],
-    triggers: &[u8],
+    given: &Rules,
     asked: &[u8],
     m: u16,
     levels: &[u8],
@@ -56,19 +55,28 @@ pub fn act(
 )
     requires { instant.old ≤ LAST_INSTANT }
     ensures { Acted
-        (rules counts periodics.now triggers.now)
+        (rules_of given.now)
         (flat asked.now m) levels.now
         (lent instant.old enabled.old waiting.old events.old)
         (lent instant.new enabled.new waiting.new events.new) }
 {
+    let counts = given.counts;
     let t = *instant;
     let before = *enabled;
-    fill(events, waiting, periodics, counts.periodics, asked, m, t);
-    solver::solve(events, levels, triggers, counts.triggers, before);
+    fill(
+        events,
+        waiting,
+        given.periodics,
+        counts.periodics,
+        asked,
+        m,
+        t,
+    );
+    solver::solve(events, levels, given.triggers, counts.triggers, before);
     refill(
         waiting,
         events,
-        triggers,
+        given.triggers,
         counts.triggers,
         asked,
         m,

@@ -20,6 +20,7 @@ pub const KEYS: u16 = 257;
 pub const FRONTS: usize = TRIGGER_ROWS as usize;
 
 // The places of the chains.
+// Kept: indices in an array in place of lists, for memory is fixed and there is no heap.
 const PLACES: usize = FRONTS + (KEYS as usize);
 
 // The key of trigger i: one more than the level of its head, and 0 where it does not count or its conditions do not all hold.

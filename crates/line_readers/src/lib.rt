@@ -1,9 +1,11 @@
-// What the readers of sheets and tapes share: the lines in order (in specs/), a line's tests in order, of which the first that fails refuses, and the column of a refusal.
+// What the readers of sheets and tapes share: the lines in order, a line's tests in order, of which the first that fails refuses, and the column of a refusal.
 #![tactic(auto)]
 
-ghost use Rattle.std.specs.Prelude.{◌≡◌, ◌-◌, length};
+ghost use Rattle.std.specs.Prelude.{◌≡◌, List, ℕ, ◌+◌, ◌-◌, ◌≤◌, ◌<◌, length};
+ghost use Rattle.text.specs.Lines.{lines};
 ghost use Rattle.line_readers.specs.Column.{column_of, in_line};
 ghost use Rattle.line_readers.specs.Order.{in_order};
+ghost use Rattle.line_readers.specs.Walks.{goes, by_verdict, Reader, walks};
 
 use answers::{Name, Refusal, Verdict, refuse};
 use widths::row_index;
@@ -78,4 +80,56 @@ pub fn in_line(r: Refusal, line: &[u8], field: u16) -> Refusal
 {
     let name = r.name;
     answers::in_column(r, column_of(name, line, field))
+}
+
+// ---- the lines in order
+
+// A reader of lines: what it read so far, and what a line more makes of that, as a definition says it. It reads so many lines at most.
+pub trait LineReader {
+    ghost Read: { Type 0 };
+
+    ghost reader: { Self → Reader Read };
+
+    ghost so_far: { Self → Read };
+
+    ghost most: { ℕ };
+
+    // How many lines were read so far.
+    fn lines_read(&self) -> u32
+        ensures { result ≡ (reader self.now).read (so_far self.now) };
+
+    // One line: its tests, and what it does.
+    fn take(&mut self, line: &[u8]) -> Verdict
+        requires { (reader self.old).read (so_far self.old) < most }
+        ensures taken { by_verdict result (so_far self.new)
+            ≡ (reader self.old).takes (so_far self.old) line.now }
+        ensures same { reader self.new ≡ reader self.old };
+
+    // After the last line.
+    fn at_end(&self) -> Verdict
+        requires { (reader self.now).read (so_far self.now) ≤ most }
+        ensures { by_verdict result (so_far self.now) ≡ (reader self.now).ends (so_far self.now) };
+
+    ghost one_more: { (r : Self) (s n : Read) (line : List ℕ) → (reader r).takes s line ≡ goes n
+        → (reader r).read n ≡ (reader r).read s + 1 };
+
+    ghost few: { most < 4294967296 };
+}
+
+// The lines of a text in order, each taken by the reader. A last line with no final 0A is FRAME.
+pub fn walk<R: LineReader>(text: &[u8], reader: &mut R) -> Verdict
+    requires { (R.reader reader.old).read (R.so_far reader.old) + length text.now ≤ R.most }
+    ensures { by_verdict result (R.so_far reader.new)
+        ≡ walks (R.reader reader.old) (goes (R.so_far reader.old)) (lines text.now) }
+{
+    let mut at: usize = 0;
+    while let Some(line) = text::line_at(text, at) {
+        reader.take(line)?;
+        at += line.len() + 1;
+    }
+    if at < text.len() {
+        let r = answers::refusal_of(Name::Frame, reader.lines_read() + 1);
+        return Err(in_line(r, &text[at..], 0));
+    }
+    reader.at_end()
 }

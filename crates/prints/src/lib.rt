@@ -21,6 +21,7 @@ fn glyph(d: u8) -> u8
 }
 
 // The sum of the frame's bytes, less the multiples of 256.
+// Kept beside the `total` of `frames`: that sums what pairs of characters stand for as it goes, and makes no bytes of them.
 fn total(frame: &[u8]) -> u8
     ensures { result ≡ sum frame.now % 256 }
 {

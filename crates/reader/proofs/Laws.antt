@@ -1,6 +1,5 @@
 -- What is proved of reading.
 pub mod Took
-pub mod Lines
 pub mod Column
 pub mod Out
 pub mod Lengths

@@ -5,3 +5,4 @@ pub mod Lines
 pub mod Took
 pub mod Out
 pub mod Reading
+pub mod Laws

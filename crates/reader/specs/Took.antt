@@ -1,4 +1,4 @@
--- What the code hands back of a line or of all of them, as the definitions say it.
+-- What came of lines, given as an answer beside two tables, as the definitions say it. (The code says it with the tables in its reader: `by_verdict`, line_readers/Walks.)
 -- Assumes nothing.
 use Rattle.std.specs.Prelude.{List, ℕ, Err, Ok, Result}
 use Rattle.sheet_acts.specs.Acts.{Progress, progress}

@@ -1,21 +1,21 @@
 // Reads any bytes into tables of any lengths: the first refusal in document 01's order, the tables as they came; or the counts, and the rows in them.
 #![tactic(auto)]
 
-ghost use Rattle.std.specs.Prelude.{◌≡◌, List, ℕ, ◌≤◌, ◌<◌, length};
+ghost use Rattle.std.specs.Prelude.{◌≡◌, ◌≤◌, length};
+ghost use Rattle.std.proofs.Common.{rules};
 ghost use Rattle.theory.specs.Numbers.{SHEET_BYTES};
-ghost use Rattle.tables.specs.Layout.{PERIODIC_TABLE, TRIGGER_TABLE};
 ghost use Rattle.text.specs.Lines.{lines};
 ghost use Rattle.line_readers.specs.Walks.{goes};
-ghost use Rattle.sheet_acts.specs.Acts.{progress};
+ghost use Rattle.sheet_acts.specs.Acts.{Progress, progress};
 ghost use Rattle.reader.specs.Answer.{verdict_of};
-ghost use Rattle.reader.specs.Line.{line_step};
-ghost use Rattle.reader.specs.Lines.{at_end, reads, fresh};
-ghost use Rattle.reader.specs.Took.{took};
+ghost use Rattle.reader.specs.Lines.{sheet_reader, reads};
+ghost use Rattle.reader.specs.Laws.OneMore.{line_next};
 ghost use Rattle.reader.specs.Out.{read_outcome, after_lines};
 ghost use Rattle.reader.specs.Reading.{start, by_lines, sheet_lengths_fit, reading};
 
 use answers::{Name, Refusal, Verdict, refusal_of};
 use kinds::Stage;
+use line_readers::LineReader;
 use sheet_tests::Seen;
 use tables::{Counts, PERIODIC_TABLE, TRIGGER_TABLE};
 
@@ -23,6 +23,7 @@ use tables::{Counts, PERIODIC_TABLE, TRIGGER_TABLE};
 pub const SHEET_BYTES: usize = 16384;
 
 // The reader's answer as a verdict, which `answers` turns into document 01's numbers.
+// Kept: `map` to `()` by a name, of which claims/Functions has a theorem and two edits speak.
 pub fn verdict_of(reading: Result<Counts, Refusal>) -> Verdict
     ensures { result ≡ verdict_of reading }
 {
@@ -32,87 +33,90 @@ pub fn verdict_of(reading: Result<Counts, Refusal>) -> Verdict
 
 // ---- the lines in order
 
-// One line: its tests, and what it does.
-fn take(
-    line: &[u8],
-    s: Seen,
-    periodics: &mut [u8; PERIODIC_TABLE],
-    triggers: &mut [u8; TRIGGER_TABLE],
-) -> Result<Seen, Refusal>
-    requires { s.line < 16384 }
-    ensures { took result periodics.new triggers.new
-        ≡ line_step (progress s periodics.old triggers.old) line.now }
-{
-    sheet_tests::line_judged(line, s, s.line + 1)?;
-    Ok(sheet_acts::act(line, s, periodics, triggers))
+// A reader of sheets: what it read so far, into tables of its own. (What they hold after a refusal nobody asks.)
+#[derive(Drop)]
+struct SheetReader {
+    seen: Seen,
+    periodics: [u8; PERIODIC_TABLE],
+    triggers: [u8; TRIGGER_TABLE],
 }
 
-// After the last line.
-fn at_end(s: Seen) -> Result<Seen, Refusal>
-    requires { s.line ≤ 16384 }
-    ensures { (p t : List ℕ) → took result p t ≡ at_end s.stage (progress s p t) }
-{
-    let stage = s.stage;
-    match stage {
-        Stage::Start => Err(refusal_of(Name::Kind, s.line + 1)),
-        Stage::Rows => Err(refusal_of(Name::Kind, s.line + 1)),
-        Stage::Ended => Ok(s),
-    }
-}
+impl LineReader for SheetReader {
+    ghost Read = { Progress };
 
-// The lines in order, into tables that are lent empty. (LENGTH was tested; what the tables hold after a refusal nobody asks.)
-fn read_lines(
-    sheet: &[u8],
-    periodics: &mut [u8; PERIODIC_TABLE],
-    triggers: &mut [u8; TRIGGER_TABLE],
-) -> Result<Seen, Refusal>
-    requires { length sheet.now ≤ SHEET_BYTES }
-    ensures { took result periodics.new triggers.new
-        ≡ reads (goes (progress fresh periodics.old triggers.old)) (lines sheet.now) }
-{
-    let mut s = Seen {
-        line: 0,
-        stage: Stage::Start,
-        counts: Counts {
-            roles: 0,
-            periodics: 0,
-            triggers: 0,
-        },
-    };
-    let mut at: usize = 0;
-    while let Some(line) = text::line_at(sheet, at) {
-        s = take(line, s, periodics, triggers)?;
-        at += line.len() + 1;
+    ghost reader = { λ r. sheet_reader };
+
+    ghost so_far = { λ r. progress r.seen r.periodics r.triggers };
+
+    ghost most = { SHEET_BYTES };
+
+    ghost one_more = { λ r. line_next };
+
+    ghost few = { Prim.search rules };
+
+    fn lines_read(&self) -> u32 {
+        self.seen.line
     }
-    if at < sheet.len() {
-        let r = refusal_of(Name::Frame, s.line + 1);
-        return Err(line_readers::in_line(r, &sheet[at..], 0));
+
+    fn take(&mut self, line: &[u8]) -> Verdict {
+        let s = self.seen;
+        sheet_tests::line_judged(line, s, s.line + 1)?;
+        self.seen = sheet_acts::act(line, s, &mut self.periodics, &mut self.triggers);
+        Ok(())
     }
-    at_end(s)
+
+    fn at_end(&self) -> Verdict {
+        let place = self.seen.line + 1;
+        let stage = self.seen.stage;
+        match stage {
+            Stage::Start => answers::refuse(Name::Kind, place),
+            Stage::Rows => answers::refuse(Name::Kind, place),
+            Stage::Ended => Ok(()),
+        }
+    }
 }
 
 // ---- after the last line
 
 // After the last line: LOOP is tested, and what passed is handed out.
 fn hand_out(
-    s: Seen,
-    per: &[u8; PERIODIC_TABLE],
-    trg: &[u8; TRIGGER_TABLE],
+    read: &SheetReader,
     periodics: &mut [u8; PERIODIC_TABLE],
     triggers: &mut [u8; TRIGGER_TABLE],
 ) -> Result<Counts, Refusal>
     ensures { read_outcome result periodics.new triggers.new
-        ≡ after_lines (progress s per.now trg.now) periodics.old triggers.old }
+        ≡ after_lines (progress read.now.seen read.now.periodics read.now.triggers) periodics.old triggers.old }
 {
-    let counts = s.counts;
-    let judged = table_judge::loop_judged(trg, counts.triggers);
+    let counts = read.seen.counts;
+    let judged = table_judge::loop_judged(&read.triggers, counts.triggers);
     judged.verdict?;
-    *periodics = *per;
-    *triggers = *trg;
+    *periodics = read.periodics;
+    *triggers = read.triggers;
     Ok(counts)
 }
 
 // ---- the whole reading
+
+// Before the first line: nothing was read, and the tables are all zero.
+fn start() -> SheetReader
+    ensures { progress result.seen result.periodics result.triggers ≡ start }
+{
+    let counts = Counts {
+        roles: 0,
+        periodics: 0,
+        triggers: 0,
+    };
+    let seen = Seen {
+        line: 0,
+        stage: Stage::Start,
+        counts,
+    };
+    SheetReader {
+        seen,
+        periodics: [0; PERIODIC_TABLE],
+        triggers: [0; TRIGGER_TABLE],
+    }
+}
 
 // Reads a sheet that is within its limit.
 fn read_within(
@@ -124,10 +128,9 @@ fn read_within(
     ensures { read_outcome result periodics.new triggers.new
         ≡ by_lines (reads (goes start) (lines sheet.now)) periodics.old triggers.old }
 {
-    let mut per = [0u8; PERIODIC_TABLE];
-    let mut trg = [0u8; TRIGGER_TABLE];
-    let s = read_lines(sheet, &mut per, &mut trg)?;
-    hand_out(s, &per, &trg, periodics, triggers)
+    let mut reader = start();
+    line_readers::walk(sheet, &mut reader)?;
+    hand_out(&reader, periodics, triggers)
 }
 
 // A sheet and the lent tables, of these lengths, pass LENGTH.

@@ -15,6 +15,7 @@ use theory::{LONGEST_DELAY, PRIORITIES, REQUESTS};
 use widths::row_index;
 
 // The flat numbers of the most requests.
+// Kept: flat numbers, with how many requests they are beside them, for document 01 names them as what the core of a step takes.
 pub const FLAT_NUMBERS: usize = REQUEST_BYTES * REQUESTS;
 
 // A request: its event, its priority, and for how many instants later it is.

@@ -9,7 +9,7 @@ ghost use Rattle.resend.specs.Resend.{AfterReading, ResendOutcome};
 use answers::{Name, Refusal, refusal_of};
 use day_input::INPUT_BYTES;
 use reader::SHEET_BYTES;
-use tables::{PERIODIC_TABLE, TRIGGER_TABLE};
+use tables::{PERIODIC_TABLE, Rules, TRIGGER_TABLE};
 
 // What was written of an input: how many bytes, and at which byte of the input what follows its sheet begins.
 #[derive(Clone, Copy)]
@@ -30,7 +30,12 @@ fn resend_within(input: &[u8], out: &mut [u8]) -> Result<Resent, Refusal>
     let parts = day_split::split(input);
     let from = parts.bytes;
     let counts = reader::read_sheet(&input[0..from], &mut periodics, &mut triggers)?;
-    let length = writer::write_sheet(counts, &periodics, &triggers, out)?;
+    let given = Rules {
+        counts,
+        periodics: &periodics,
+        triggers: &triggers,
+    };
+    let length = writer::write_sheet(&given, out)?;
     Ok(Resent { length, from })
 }
 

@@ -2,6 +2,7 @@
 // believed stands in `resend`.
 #![tactic(auto)]
 
+// Kept beside the program `day`: the two read an input alike, in three lines, and print each what the other does not.
 // Prints the sheet of an input, by way of a buffer that is lent for it, and the rest of the input; or the line of the refusal.
 fn print(input: &[u8], out: &mut [u8]) {
     let answer = resend::resend(input, out);

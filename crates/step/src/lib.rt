@@ -4,19 +4,18 @@
 ghost use Rattle.std.specs.Prelude.{◌≤◌};
 ghost use Rattle.theory.specs.Numbers.{LAST_INSTANT};
 ghost use Rattle.tables.specs.Asked.{flat};
-ghost use Rattle.tables.specs.Lent.{rules, lent};
+ghost use Rattle.tables.specs.Lent.{rules_of, lent};
 ghost use Rattle.step.specs.Outcome.{Outcome};
 ghost use Rattle.step.specs.Parts.{Sized, Inner};
 
 use answers::{Verdict, and_then};
 use requests::FLAT_NUMBERS;
-use tables::Counts;
+use tables::Rules;
 
 // A step that passed LENGTH, LAST and TOO MANY of requests: the tables and the requests are judged, and then it acts.
+// Kept: what is lent to be changed goes part by part, as in `instant::act`.
 fn step_within(
-    counts: Counts,
-    periodics: &[u8],
-    triggers: &[u8],
+    given: &Rules,
     asked: &[u8],
     m: u16,
     instant: &mut u32,
@@ -26,27 +25,24 @@ fn step_within(
 ) -> Verdict
     requires { (instant.old ≤ LAST_INSTANT) × Sized waiting.old events.old }
     ensures { Inner
-        (rules counts periodics.now triggers.now)
+        (rules_of given.now)
         (flat asked.now m)
         (lent instant.old enabled.old waiting.old events.old)
         result
         (lent instant.new enabled.new waiting.new events.new) }
 {
-    let judged = table_judge::judge(counts, periodics, triggers);
+    let judged = table_judge::judge(given);
     let levels = judged.levels;
-    let requests = requests::judge_requests(counts.roles, asked, m);
+    let requests = requests::judge_requests(given.counts.roles, asked, m);
     and_then(judged.verdict, requests)?;
-    instant::act(
-        counts, periodics, triggers, asked, m, &levels, instant, enabled, waiting, events,
-    );
+    instant::act(given, asked, m, &levels, instant, enabled, waiting, events);
     Ok(())
 }
 
 // One step, of whatever is lent. The requests are flat numbers, event, priority and delay of each; only the first n count, and n over 32 is TOO MANY.
+// Kept: what is lent to be changed goes part by part, as in `instant::act`.
 pub fn step(
-    counts: Counts,
-    periodics: &[u8],
-    triggers: &[u8],
+    given: &Rules,
     asked: [u8; FLAT_NUMBERS],
     n: usize,
     instant: &mut u32,
@@ -55,21 +51,20 @@ pub fn step(
     events: &mut [u16],
 ) -> Verdict
     ensures { Outcome
-        (rules counts periodics.now triggers.now)
+        (rules_of given.now)
         (flat asked n)
         (lent instant.old enabled.old waiting.old events.old)
         result
         (lent instant.new enabled.new waiting.new events.new) }
 {
-    step_tests::judge_first(
-        periodics.len(),
-        triggers.len(),
+    let first = step_tests::judge_first(
+        given.periodics.len(),
+        given.triggers.len(),
         waiting.len(),
         events.len(),
         *instant,
         n,
-    )?;
-    step_within(
-        counts, periodics, triggers, &asked, n as u16, instant, enabled, waiting, events,
-    )
+    );
+    first?;
+    step_within(given, &asked, n as u16, instant, enabled, waiting, events)
 }

@@ -3,12 +3,12 @@
 
 ghost use Rattle.std.specs.Prelude.{◌≡◌};
 ghost use Rattle.tables.specs.Layout.{triggers_of};
-ghost use Rattle.tables.specs.Lent.{rules, sheet_in};
+ghost use Rattle.tables.specs.Lent.{rules_of, sheet_in};
 ghost use Rattle.table_judge.specs.Judged.{judged, loop_verdict, loop_judged};
 
 use answers::{Name, Verdict, refuse};
 use loops::LEVELS;
-use tables::Counts;
+use tables::Rules;
 use theory::EVENTS;
 
 // The weight of `from` in LOOP's place.
@@ -50,12 +50,12 @@ pub fn loop_judged(triggers: &[u8], n: u16) -> Judged
 // ---- the judge
 
 // Judges lent tables, of any lengths and with any counts: TOO MANY, FIELD, LOOP.
-pub fn judge(counts: Counts, periodics: &[u8], triggers: &[u8]) -> Judged
-    ensures { result ≡ judged (sheet_in (rules counts periodics.now triggers.now)) }
+pub fn judge(given: &Rules) -> Judged
+    ensures { result ≡ judged (sheet_in (rules_of given.now)) }
 {
-    let rows = row_judge::rows_judged(counts, periodics, triggers);
+    let rows = row_judge::rows_judged(given);
     match rows {
-        Ok(()) => loop_judged(triggers, counts.triggers),
+        Ok(()) => loop_judged(given.triggers, given.counts.triggers),
         Err(r) => Judged {
             verdict: Err(r),
             levels: [0; LEVELS],

@@ -5,6 +5,7 @@ use Rattle.std.specs.Prelude.{List, ℕ}
 use Rattle.theory.specs.Sheet.{Sheet}
 use Rattle.theory.specs.Box.{State}
 use Rattle.tables.specs.declared.Counts.{Counts}
+use Rattle.tables.specs.declared.Rules.{Rules as Given}
 use Rattle.tables.specs.Layout.{sheet_of}
 use Rattle.tables.specs.Buffers.{roles_of, waiting_of}
 
@@ -25,6 +26,10 @@ pub record Rules : Type 0 where
 
 abbrev pub rules : Counts → List ℕ → List ℕ → Rules
 rules n p t = record { counts = n; tables = tables_of p t }
+
+-- the same of the code's own record, which holds both tables as lent slices
+abbrev pub rules_of : Given → Rules
+rules_of g = rules g.counts g.periodics.now g.triggers.now
 
 -- the sheet that they stand for; unused rows, and the places of a trigger past its counts, are in no rule about it
 abbrev pub sheet_in : Rules → Sheet

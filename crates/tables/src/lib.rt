@@ -26,11 +26,20 @@ pub const WAITING_NUMBERS: usize = EVENTS_NUMBERS * (WAITING_ROWS as usize);
 pub const REQUEST_BYTES: usize = 3;
 
 // How much of what is lent is used: the role count, and the rows of each table.
+// Kept: a table and the number of its rows stand apart, for document 01 lends tables of one length; a count may be any, and what it says is judged.
 #[derive(Clone, Copy, PartialEq, Eq, Debug)]
 pub struct Counts {
     pub roles: u8,
     pub periodics: u16,
     pub triggers: u16,
+}
+
+// What is lent to be read: how much of it is used, and both tables.
+#[derive(Clone, Copy)]
+pub struct Rules<'a> {
+    pub counts: Counts,
+    pub periodics: &'a [u8],
+    pub triggers: &'a [u8],
 }
 
 // The element at i; `past` past the end.

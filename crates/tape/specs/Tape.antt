@@ -1,6 +1,6 @@
 -- A tape: what each line does to what was read so far, the lines in order, and the requests that they make (document 01, 'The day program').
 -- Assumes nothing.
-use Rattle.std.specs.Prelude.{true, false, cond, ◌&&◌, ◌||◌, List, ℕ, ◌+◌, eqb}
+use Rattle.std.specs.Prelude.{false, cond, ◌&&◌, ◌||◌, List, ℕ, ◌+◌, None, Some, eqb, is_some}
 use Rattle.theory.specs.Sheet.{is}
 use Rattle.theory.specs.Model.{Stream}
 use Rattle.answers.specs.declared.Name.TheVariants.{Kind}
@@ -23,8 +23,8 @@ many_with s t = cond (eqb t s.instant) (s.many + 1) 1
 unfoldable pub heard_after : Heard → List ℕ → Heard
 heard_after s f =
     cond (eqb (kind f) ASK)
-    (record { line = s.line + 1; ended = false; instant = instant_of f; many = many_with s (instant_of f); last = s.last })
-    (record { line = s.line + 1; ended = true; instant = s.instant; many = s.many; last = instant_of f })
+    (record { line = s.line + 1; instant = instant_of f; many = many_with s (instant_of f); end = None })
+    (record { line = s.line + 1; instant = s.instant; many = s.many; end = Some (instant_of f) })
 
 -- THE LINE: its tests, at the line after those that were read, and what it does
 unfoldable pub tape_step : ℕ → Heard → List ℕ → Going Heard
@@ -32,7 +32,7 @@ tape_step roles s l = by_verdict (judge_tape (s.line + 1) roles s l) (heard_afte
 
 -- after the last line: the end was there, else KIND at the line after it
 unfoldable pub tape_ends : Heard → Going Heard
-tape_ends s = cond s.ended (goes s) (refused (refusal Kind (s.line + 1)))
+tape_ends s = cond (is_some s.end) (goes s) (refused (refusal Kind (s.line + 1)))
 
 -- the reader of a tape
 abbrev pub tape_reader : ℕ → Reader Heard
@@ -40,7 +40,7 @@ tape_reader roles = record { read = λ s. s.line; takes = tape_step roles; ends 
 
 -- before the first line of a tape, after so many lines of a sheet
 abbrev pub unheard : ℕ → Heard
-unheard before = record { line = before; ended = false; instant = 0; many = 0; last = 0 }
+unheard before = record { line = before; instant = 0; many = 0; end = None }
 
 -- THE TAPE: its lines in order, with a role count, after so many lines of a sheet
 abbrev pub tape_read : ℕ → ℕ → List ℕ → Going Heard

@@ -2,13 +2,17 @@
 #![tactic(auto)]
 
 ghost use Rattle.std.specs.Prelude.{◌≡◌, true, ◌≤◌, ◌<◌, length};
+ghost use Rattle.std.proofs.Common.{rules};
 ghost use Rattle.frames.specs.Frame.{bytes_of};
 ghost use Rattle.tape_tests.specs.Tests.{room_for_request};
-ghost use Rattle.tape.specs.Tape.{many_with, heard_after, tape_step, tape_ends, tape_read};
+ghost use Rattle.tape_tests.specs.declared.Heard.{Heard};
+ghost use Rattle.tape.specs.Tape.{many_with, heard_after, tape_reader, tape_read};
+ghost use Rattle.tape.specs.Laws.Line.{line_next};
 ghost use Rattle.tape.specs.Took.{took};
 
-use answers::{Name, Refusal};
+use answers::{Name, Refusal, Verdict};
 use frames::byte_at;
+use line_readers::LineReader;
 use tape_frames::{ASK, instant_of};
 use tape_tests::Heard;
 
@@ -32,39 +36,57 @@ fn heard_after(line: &[u8], s: Heard) -> Heard
     if byte_at(line, 0) == ASK {
         return Heard {
             line: s.line + 1,
-            ended: false,
             instant: t,
             many: one_more(s, t),
-            last: s.last,
+            end: None,
         };
     }
     Heard {
         line: s.line + 1,
-        ended: true,
         instant: s.instant,
         many: s.many,
-        last: t,
+        end: Some(t),
     }
 }
 
-// One line: its tests, and what it does.
-fn take(line: &[u8], roles: u8, s: Heard) -> Result<Heard, Refusal>
-    requires { s.line < 131072 }
-    ensures { took result ≡ tape_step roles s line.now }
-{
-    tape_tests::tape_judged(line, roles, s, s.line + 1)?;
-    Ok(heard_after(line, s))
+// A reader of tapes for so many roles, and what it heard so far.
+#[derive(Clone, Copy)]
+struct TapeReader {
+    roles: u8,
+    heard: Heard,
 }
 
-// After the last line.
-fn at_end(s: Heard) -> Result<Heard, Refusal>
-    requires { s.line ≤ 131072 }
-    ensures { took result ≡ tape_ends s }
-{
-    if s.ended {
-        return Ok(s);
+impl LineReader for TapeReader {
+    ghost Read = { Heard };
+
+    ghost reader = { λ r. tape_reader r.roles };
+
+    ghost so_far = { λ r. r.heard };
+
+    ghost most = { 131072 };
+
+    ghost one_more = { λ r. line_next r.roles };
+
+    ghost few = { Prim.search rules };
+
+    fn lines_read(&self) -> u32 {
+        self.heard.line
     }
-    Err(answers::refusal_of(Name::Kind, s.line + 1))
+
+    fn take(&mut self, line: &[u8]) -> Verdict {
+        let s = self.heard;
+        tape_tests::tape_judged(line, self.roles, s, s.line + 1)?;
+        self.heard = heard_after(line, s);
+        Ok(())
+    }
+
+    fn at_end(&self) -> Verdict {
+        let s = self.heard;
+        if s.end.is_some() {
+            return Ok(());
+        }
+        answers::refuse(Name::Kind, s.line + 1)
+    }
 }
 
 // Reads a tape that stands after so many lines of a sheet, for so many roles. (For `day_input` alone, which has tested LENGTH.)
@@ -72,21 +94,13 @@ pub fn read_tape(tape: &[u8], roles: u8, before: u32) -> Result<Heard, Refusal>
     requires { (length tape.now ≤ 65536) × (before ≤ 65536) }
     ensures { took result ≡ tape_read roles before tape.now }
 {
-    let mut s = Heard {
+    let heard = Heard {
         line: before,
-        ended: false,
         instant: 0,
         many: 0,
-        last: 0,
+        end: None,
     };
-    let mut at: usize = 0;
-    while let Some(line) = text::line_at(tape, at) {
-        s = take(line, roles, s)?;
-        at += line.len() + 1;
-    }
-    if at < tape.len() {
-        let r = answers::refusal_of(Name::Frame, s.line + 1);
-        return Err(line_readers::in_line(r, &tape[at..], 0));
-    }
-    at_end(s)
+    let mut reader = TapeReader { roles, heard };
+    line_readers::walk(tape, &mut reader)?;
+    Ok(reader.heard)
 }

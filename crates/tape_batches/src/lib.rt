@@ -10,8 +10,7 @@ ghost use Rattle.tape_frames.specs.Frame.{asked_in};
 ghost use Rattle.tape_batches.specs.Batch.{is_of, takes, rest, none_yet};
 
 use frames::byte_at;
-use requests::FLAT_NUMBERS;
-use tables::REQUEST_BYTES;
+use requests::{FLAT_NUMBERS, put};
 use tape_frames::{ASK, asked_in, instant_of};
 use theory::REQUESTS;
 
@@ -30,18 +29,6 @@ fn is_one_more(line: &[u8], t: u32, n: usize) -> bool
     (byte_at(line, 0) == ASK) & (instant_of(line) == t) & (n < REQUESTS)
 }
 
-// The flat numbers with the request of a line put in at place n.
-fn put(asked: &mut [u8], n: usize, line: &[u8])
-    requires { (length asked.old ≡ FLAT_NUMBERS) × (n < REQUESTS) }
-    ensures { asked.new ≡ put_at asked.old n (asked_in (bytes_of line.now)) }
-{
-    let r = asked_in(line);
-    let at = REQUEST_BYTES * n;
-    asked[at] = r.event;
-    asked[at + 1] = r.priority;
-    asked[at + 2] = r.delay;
-}
-
 // The requests of instant t that stand in a tape at `at` and on, at most 32.
 pub fn take_batch(tape: &[u8], at: usize, t: u32) -> Batch
     ensures { (result ≡ takes t (lines (drop at tape.now)) (none_yet at))
@@ -54,7 +41,7 @@ pub fn take_batch(tape: &[u8], at: usize, t: u32) -> Batch
         if !is_one_more(line, t, n) {
             break;
         }
-        put(&mut asked, n, line);
+        put(&mut asked, n, asked_in(line));
         n += 1;
         next += line.len() + 1;
     }

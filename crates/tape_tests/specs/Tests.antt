@@ -1,6 +1,7 @@
 -- The tests of a line of a tape, in their order (document 01, 'The day program'), and the column of its refusal.
 -- Assumes nothing.
-use Rattle.std.specs.Prelude.{Bool, true, not, cond, ◌&&◌, ◌||◌, List, ℕ, ltb, leb, eqb, length}
+use Rattle.std.specs.Prelude.{Bool, true, not, cond, ◌&&◌, ◌||◌, List, ℕ, ltb, leb, eqb, length, is_none}
+use Rattle.std.specs.Option.{unwrap_or}
 use Rattle.theory.specs.Numbers.{REQUESTS}
 use Rattle.answers.specs.declared.Name.TheVariants.{Request}
 use Rattle.line_readers.specs.declared.Tests.{Tests}
@@ -18,13 +19,17 @@ use Rattle.answers.specs.Answers.{Verdict}
 abbrev pub LONGEST_DAY : ℕ
 LONGEST_DAY = 10080
 
+-- the last instant that the end said, once it was there
+abbrev pub last_instant : Heard → ℕ
+last_instant s = unwrap_or s.end 0
+
 -- how many bytes a frame of this kind has, the kind and the check among them; an unknown kind has 0, and no framed line has so few
 unfoldable pub tape_size : ℕ → ℕ
 tape_size k = cond (eqb k ASK) 9 (cond (eqb k TAPE_END) 6 0)
 
 -- passes KIND: a known kind, its byte count, and no line after the end
 unfoldable pub of_tape : Heard → List ℕ → Bool
-of_tape s f = eqb (length f) (tape_size (kind f)) && not s.ended
+of_tape s f = eqb (length f) (tape_size (kind f)) && is_none s.end
 
 -- passes TOO MANY: no 33rd request in a row of one instant
 unfoldable pub room_for_request : Heard → List ℕ → Bool

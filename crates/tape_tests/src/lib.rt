@@ -22,15 +22,14 @@ const INSTANT_BYTE: u16 = 1;
 // The most requests in a row of one instant.
 const REQUESTS: u8 = 32;
 
-// What was read of a tape so far: how many lines of the whole input, whether the end was there, the instant of the last request and how many requests in a row are of it,
-// and the last instant that the end said. (Before the first request the instant is 0, and none is of it.)
+// What was read of a tape so far: how many lines of the whole input, the instant of the last request and how many requests in a row are of it, and, once the end was there,
+// the last instant that it said. (Before the first request the instant is 0, and none is of it.)
 #[derive(Clone, Copy)]
 pub struct Heard {
     pub line: u32,
-    pub ended: bool,
     pub instant: u32,
     pub many: u8,
-    pub last: u32,
+    pub end: Option<u32>,
 }
 
 // How many bytes a frame of kind k has.
@@ -51,7 +50,7 @@ fn of_tape(line: &[u8], s: Heard) -> bool
     ensures { result ≡ of_tape s (bytes_of line.now) }
 {
     let sized = frames::count(line) == size_of(byte_at(line, 0));
-    sized & !s.ended
+    sized & s.end.is_none()
 }
 
 // A frame of instant t passes TOO MANY.

@@ -9,6 +9,7 @@ use tables::{DELAY, FIRST_CONDITION, FIRST_EVENT, TRIGGER_BYTES, byte, trigger_b
 use widths::{index, row_index};
 
 // Body event j of trigger i.
+// Kept beside `condition`: each is one call of `byte`, and a function for both would be that call with one argument more.
 #[tactic(auto, unfolding(tables::specs::Layout::trigger_from))]
 pub fn event(triggers: &[u8], i: u16, j: u8) -> u8
     ensures { result ≡ (trigger_at triggers.now i).event j }

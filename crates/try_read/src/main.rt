@@ -51,14 +51,11 @@ fn mark_of(reading: Result<Counts, Refusal>, periodics: &[u8], triggers: &[u8], 
 
 // The counts, which are zero after a refusal.
 fn counts_of(reading: Result<Counts, Refusal>) -> Counts {
-    match reading {
-        Ok(counts) => counts,
-        Err(refusal) => Counts {
-            roles: 0,
-            periodics: 0,
-            triggers: 0,
-        },
-    }
+    reading.unwrap_or(Counts {
+        roles: 0,
+        periodics: 0,
+        triggers: 0,
+    })
 }
 
 // The three counts.

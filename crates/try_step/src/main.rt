@@ -4,7 +4,7 @@
 
 use answers::Verdict;
 use cases::{Stop, four, put, take_rows, value};
-use tables::Counts;
+use tables::{Counts, Rules};
 
 // ---- the result
 
@@ -83,8 +83,7 @@ fn counts_of(head: &[u8]) -> Counts {
 // Takes one step, and prints its result.
 fn try_one(
     head: &[u8],
-    periodics: &[u8],
-    triggers: &[u8],
+    rules: &Rules,
     asked: [u8; 96],
     waiting: &mut [u16],
     events: &mut [u16],
@@ -92,9 +91,7 @@ fn try_one(
     let mut instant = (value(head, 47, 55) % 4294967296) as u32;
     let mut enabled = value(head, 56, 72) as u64;
     let verdict = step::step(
-        counts_of(head),
-        periodics,
-        triggers,
+        rules,
         asked,
         four(head, 93) as usize,
         &mut instant,
@@ -108,8 +105,7 @@ fn try_one(
 // The requests. Those past the room are dropped: of more than 32 a step asks only how many there are.
 fn with_events(
     head: &[u8],
-    periodics: &[u8],
-    triggers: &[u8],
+    rules: &Rules,
     waiting: &mut [u16],
     events: &mut [u16],
 ) -> Result<(), Stop> {
@@ -119,23 +115,18 @@ fn with_events(
     }
     let mut asked = [0u8; 96];
     take_rows(&mut asked, n, 6)?;
-    try_one(head, periodics, triggers, asked, waiting, events)
+    try_one(head, rules, asked, waiting, events)
 }
 
 // The events buffer, which holds the fill.
-fn with_waiting(
-    head: &[u8],
-    periodics: &[u8],
-    triggers: &[u8],
-    waiting: &mut [u16],
-) -> Result<(), Stop> {
+fn with_waiting(head: &[u8], rules: &Rules, waiting: &mut [u16]) -> Result<(), Stop> {
     let e = four(head, 15) as usize;
     let fill = four(head, 73);
     let mut events = [fill; 256];
     if e > events.len() {
         return Err(Stop::BadCase);
     }
-    with_events(head, periodics, triggers, waiting, &mut events[0..e])
+    with_events(head, rules, waiting, &mut events[0..e])
 }
 
 // Takes a waiting entry into a buffer: the row, the event and the set of priorities.
@@ -159,7 +150,7 @@ fn take_entries(waiting: &mut [u16], count: u16) -> Result<(), Stop> {
 }
 
 // The waiting buffer and its entries.
-fn with_triggers(head: &[u8], periodics: &[u8], triggers: &[u8]) -> Result<(), Stop> {
+fn with_triggers(head: &[u8], rules: &Rules) -> Result<(), Stop> {
     let w = four(head, 10) as usize;
     let given = four(head, 88);
     let mut waiting = [0u16; 8192];
@@ -167,7 +158,7 @@ fn with_triggers(head: &[u8], periodics: &[u8], triggers: &[u8]) -> Result<(), S
         return Err(Stop::BadCase);
     }
     take_entries(&mut waiting[0..w], given)?;
-    with_waiting(head, periodics, triggers, &mut waiting[0..w])
+    with_waiting(head, rules, &mut waiting[0..w])
 }
 
 // The trigger table and its rows.
@@ -180,7 +171,12 @@ fn with_periodics(head: &[u8], periodics: &[u8]) -> Result<(), Stop> {
         return Err(Stop::BadCase);
     }
     take_rows(&mut triggers, given, 26)?;
-    with_triggers(head, periodics, &triggers[0..t])
+    let rules = Rules {
+        counts: counts_of(head),
+        periodics,
+        triggers: &triggers[0..t],
+    };
+    with_triggers(head, &rules)
 }
 
 // The periodic table and its rows.

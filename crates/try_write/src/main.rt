@@ -4,7 +4,7 @@
 
 use answers::Refusal;
 use cases::{Stop, four, put, store, take_rows, value};
-use tables::Counts;
+use tables::Rules;
 
 // ---- the written lines
 
@@ -63,33 +63,27 @@ fn print_result(sent: Result<usize, Refusal>, buffer: &[u8], fill: u8) -> Result
 //     0    5    10       19       28       37   42          0    5
 
 // Writes tables into a buffer that holds the fill, and prints the result.
-fn try_one(
-    counts: Counts,
-    periodics: &[u8],
-    triggers: &[u8],
-    buffer: &mut [u8],
-    fill: u8,
-) -> Result<(), Stop> {
-    let sent = writer::write_sheet(counts, periodics, triggers, buffer);
+fn try_one(given: &Rules, buffer: &mut [u8], fill: u8) -> Result<(), Stop> {
+    let sent = writer::write_sheet(given, buffer);
     print_result(sent, buffer, fill)
 }
 
 // The buffer, which holds the fill.
-fn with_line(counts: Counts, periodics: &[u8], triggers: &[u8], line: &[u8]) -> Result<(), Stop> {
+fn with_line(given: &Rules, line: &[u8]) -> Result<(), Stop> {
     let n = four(line, 0) as usize;
     let fill = (value(line, 5, 7) % 256) as u8;
     let mut buffer = [fill; 32768];
     if n > buffer.len() {
         return Err(Stop::BadCase);
     }
-    try_one(counts, periodics, triggers, &mut buffer[0..n], fill)
+    try_one(given, &mut buffer[0..n], fill)
 }
 
 // The line of the buffer. Where the input ends before it, the case is not whole.
-fn with_tables(counts: Counts, periodics: &[u8], triggers: &[u8]) -> Result<(), Stop> {
+fn with_tables(given: &Rules) -> Result<(), Stop> {
     let mut line = [0u8; 8];
     cases::take_line(&mut line, b"0000 00\n").or(Err(Stop::BadCase))?;
-    with_line(counts, periodics, triggers, &line)
+    with_line(given, &line)
 }
 
 // Takes the rows that are given of both tables, which are at most as many as each is lent.
@@ -113,8 +107,12 @@ fn with_head(head: &[u8]) -> Result<(), Stop> {
         return Err(Stop::BadCase);
     }
     take_tables(head, &mut periodics, &mut triggers)?;
-    let counts = cases::counts_at(head, 10);
-    with_tables(counts, &periodics[0..p], &triggers[0..t])
+    let given = Rules {
+        counts: cases::counts_at(head, 10),
+        periodics: &periodics[0..p],
+        triggers: &triggers[0..t],
+    };
+    with_tables(&given)
 }
 
 // The cases, until the input ends or one is not in the form.

@@ -5,6 +5,7 @@ ghost use Rattle.std.specs.Prelude.{◌≡◌, ◌+◌, ◌*◌, ◌<◌};
 ghost use Rattle.theory.specs.Below.{one};
 
 // A byte as a number of 32 bits.
+// Kept, as the others below: a name for each conversion, of which claims/Functions has a theorem and the edits speak.
 pub fn wide(x: u8) -> u32
     ensures { result ≡ x }
 {

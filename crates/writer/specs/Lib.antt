@@ -2,4 +2,4 @@
 pub mod RowLines
 pub mod Outcome
 pub mod Made
-pub mod Long
+pub mod Laws

@@ -4,19 +4,19 @@
 ghost use Rattle.std.specs.Prelude.{◌≡◌, List, ℕ, ◌+◌, ◌*◌, ◌≤◌, ◌<◌, length};
 ghost use Rattle.theory.specs.Numbers.{SHEET_BYTES};
 ghost use Rattle.theory.specs.Sheet.{GoodOrder};
-ghost use Rattle.tables.specs.Lent.{rules, sheet_in};
+ghost use Rattle.tables.specs.Lent.{rules_of, sheet_in};
 ghost use Rattle.tables.specs.Layout.{PERIODIC_BYTES, TRIGGER_BYTES, byte_at};
 ghost use Rattle.prints.specs.Print.{line_of};
 ghost use Rattle.writer.specs.Outcome.{write_lengths_fit, judge_writing, WriteOutcome};
 ghost use Rattle.writer.specs.Made.{header_frame, periodic_frame, row_place, body_size, trigger_whole, body_frame, end_frame, text_below, periodic_text, trigger_text, sheet_text, Puts, AnyRow, FewInBody};
-ghost use Rattle.writer.specs.Long.{periodic_short, trigger_short};
+ghost use Rattle.writer.specs.Laws.Long.{periodic_short, trigger_short};
 
 use answers::{Name, Refusal, Verdict, refuse};
 use fields::VERSION;
 use kinds::{END, HEADER, PERIODIC, TRIGGER};
 use reader::SHEET_BYTES;
 use std::array;
-use tables::{Counts, PERIODIC_BYTES, PERIODIC_TABLE, TRIGGER_BYTES, TRIGGER_TABLE, byte};
+use tables::{Counts, PERIODIC_BYTES, PERIODIC_TABLE, Rules, TRIGGER_BYTES, TRIGGER_TABLE, byte};
 use widths::{index, row_index};
 
 // The bytes of frames without their check; of a trigger's at most so many.
@@ -182,11 +182,12 @@ impl Rows for Triggers {
     }
 }
 
-// The lines of the first n rows of a table.
+// The lines of the first n rows of a table, which holds bytes.
 fn put_rows<R: Rows>(out: &mut [u8; SHEET_BYTES], at: usize, table: &[u8], n: u16) -> usize
     requires room { at + R.most * n ≤ SHEET_BYTES }
     requires good { (i : ℕ) → i < n → R.good table.now i }
-    ensures { Puts out.old at (text_below n (R.text table.now)) out.new result }
+    ensures puts { Puts out.old at (text_below n (R.text table.now)) out.new result }
+    ensures bytes { (i : ℕ) → byte_at table.now i < 256 }
 {
     let mut to: usize = at;
     for i in 0..n {
@@ -195,24 +196,19 @@ fn put_rows<R: Rows>(out: &mut [u8; SHEET_BYTES], at: usize, table: &[u8], n: u1
     to
 }
 
-// The whole sheet at the front of the buffer; how many bytes it has.
-fn put_sheet(
-    counts: Counts,
-    periodics: &[u8],
-    triggers: &[u8],
-    out: &mut [u8; SHEET_BYTES],
-) -> usize
-    requires { GoodOrder (sheet_in (rules counts periodics.now triggers.now)) }
-    ensures { Puts
-        out.old 0
-        (sheet_text (rules counts periodics.now triggers.now))
-        out.new result }
+// The whole sheet at the front of the buffer; how many bytes it has. Both tables hold bytes.
+fn put_sheet(given: &Rules, out: &mut [u8; SHEET_BYTES]) -> usize
+    requires { GoodOrder (sheet_in (rules_of given.now)) }
+    ensures puts { Puts out.old 0 (sheet_text (rules_of given.now)) out.new result }
+    ensures periodic_bytes { (i : ℕ) → byte_at given.now.periodics.now i < 256 }
+    ensures trigger_bytes { (i : ℕ) → byte_at given.now.triggers.now i < 256 }
 {
+    let counts = given.counts;
     let first = header_frame(counts.roles);
     let last = end_frame(counts);
     let a = put(out, 0, &first);
-    let b = put_rows::<Periodics>(out, a, periodics, counts.periodics);
-    let c = put_rows::<Triggers>(out, b, triggers, counts.triggers);
+    let b = put_rows::<Periodics>(out, a, given.periodics, counts.periodics);
+    let c = put_rows::<Triggers>(out, b, given.triggers, counts.triggers);
     put(out, c, &last)
 }
 
@@ -226,11 +222,11 @@ fn write_lengths_fit(periodics: usize, triggers: usize, out: usize) -> bool
 }
 
 // LENGTH, TOO MANY, FIELD, LOOP, in this order.
-fn judge_writing(counts: Counts, periodics: &[u8], triggers: &[u8], out: usize) -> Verdict
-    ensures { result ≡ judge_writing (rules counts periodics.now triggers.now) out }
+fn judge_writing(given: &Rules, out: usize) -> Verdict
+    ensures { result ≡ judge_writing (rules_of given.now) out }
 {
-    if write_lengths_fit(periodics.len(), triggers.len(), out) {
-        let judged = table_judge::judge(counts, periodics, triggers);
+    if write_lengths_fit(given.periodics.len(), given.triggers.len(), out) {
+        let judged = table_judge::judge(given);
         let verdict = judged.verdict;
         return verdict;
     }
@@ -238,17 +234,10 @@ fn judge_writing(counts: Counts, periodics: &[u8], triggers: &[u8], out: usize) 
 }
 
 // Writes a sheet: on OK it stands at the front of the buffer, in so many bytes. After any refusal the buffer is what it was.
-pub fn write_sheet(
-    counts: Counts,
-    periodics: &[u8],
-    triggers: &[u8],
-    out: &mut [u8],
-) -> Result<usize, Refusal>
-    ensures { WriteOutcome
-        (rules counts periodics.now triggers.now)
-        out.old result out.new }
+pub fn write_sheet(given: &Rules, out: &mut [u8]) -> Result<usize, Refusal>
+    ensures { WriteOutcome (rules_of given.now) out.old result out.new }
 {
-    judge_writing(counts, periodics, triggers, out.len())?;
+    judge_writing(given, out.len())?;
     let whole = out.as_mut_array().unwrap();
-    Ok(put_sheet(counts, periodics, triggers, whole))
+    Ok(put_sheet(given, whole))
 }

@@ -13,7 +13,7 @@ use Rattle.kinds.specs.declared.Stage.TheVariants.{Start, Rows, Ended}
 use Rattle.sheet_tests.specs.Laws.{Passed}
 use Rattle.sheet_acts.specs.Acts.{Progress, after}
 use Rattle.reader.specs.Lines.{at_end, sheet_reader, reads}
-use Rattle.reader.proofs.Laws.Lines.{took_line}
+use Rattle.reader.specs.Laws.OneMore.{took_line}
 use Rattle.reader.specs.Out.{sheet_read}
 use Rattle.accepted.specs.Laws.SoFar.{InOrder, SoFar}
 use Rattle.accepted.specs.Laws.Kept.{kept}

@@ -1,6 +1,5 @@
 -- `answers::and_then` meets its contract: by the first verdict.
 -- Assumes nothing.
-use mathlib.Core.Path.{◌∙◌}
 use Rattle.answers.specs.Answers.{and_then}
 use Rattle.answers.proofs.Laws.{handed_on}
 use Rattle.answers.proofs.and_then.Goals as goal

@@ -7,7 +7,7 @@ use Rattle.day_input.proofs.open_tape.Goals as goal
 
 pub returns : goal.returns
 returns c =
-    tape_goes _ _ _ _ _ c.read_tape.ensures _ c.in_ok-s.was
+    rw c.unwrap_or.ensures (tape_goes _ _ _ _ _ c.read_tape.ensures _ c.in_ok-s.was)
 
 pub returns-in_err-s : goal.returns-in_err-s
 returns-in_err-s c =

@@ -18,7 +18,7 @@ use Rattle.reader.specs.Out.{ReadOutcome, read_outcome}
 use Rattle.day_split.specs.Split.{sheet_bytes, sheet_lines, sheet_part, tape_part}
 use Rattle.day_split.proofs.Laws.Parts.{sheet_bytes_le}
 use Rattle.tape_tests.specs.declared.Heard.{Heard}
-use Rattle.tape_tests.specs.Tests.{LONGEST_DAY}
+use Rattle.tape_tests.specs.Tests.{LONGEST_DAY, last_instant}
 use Rattle.tape.specs.Tape.{tape_read, unheard}
 use Rattle.tape.specs.Laws.Fine.{accepted_last}
 use Rattle.day_input.specs.declared.Plan.{Plan}
@@ -60,7 +60,7 @@ module _ (input p t : List ℕ) where
     unfolding after_sheet
     by_tape_lem g h = by_sheet_lem w (Ok counts) e ∙ ap (after_tape (sheet_in (rules counts p t)) (lines (tape_part input))) h
 
-    goes_to : (s : Heard) → heard counts ≡ goes s → OpensTo input (record { counts = counts; from = sheet_bytes (lines input); last = s.last }) p t
+    goes_to : (s : Heard) → heard counts ≡ goes s → OpensTo input (record { counts = counts; from = sheet_bytes (lines input); last = last_instant s }) p t
     unfolding after_tape Reads
     goes_to s h =
         record {
@@ -73,7 +73,7 @@ module _ (input p t : List ℕ) where
     tape_opens : (g : Going Heard) → heard counts ≡ g → (plan : Plan) → Ok plan ≡ by_heard counts (sheet_bytes (lines input)) g → OpensTo input plan p t
     unfolding by_heard
     tape_opens (goes s) h plan o =
-        let q : record { counts = counts; from = sheet_bytes (lines input); last = s.last } ≡ plan = cc in
+        let q : record { counts = counts; from = sheet_bytes (lines input); last = last_instant s } ≡ plan = cc in
         subst (λ (x : Plan). OpensTo input x p t) q (goes_to s h)
     tape_opens (refused x) h plan o = opens_not plan x o
 

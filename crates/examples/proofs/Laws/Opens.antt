@@ -18,6 +18,7 @@ use Rattle.reader.specs.Out.{ReadOutcome, read_outcome}
 use Rattle.day_split.specs.Split.{sheet_lines, tape_part}
 use Rattle.tape_frames.specs.Frame.{ASK}
 use Rattle.tape_tests.specs.declared.Heard.{Heard}
+use Rattle.tape_tests.specs.Tests.{last_instant}
 use Rattle.tape.specs.Tape.{unheard, line_asks, asks_in}
 use Rattle.tape.specs.Laws.Fine.{accepted_fine, fine_within}
 use Rattle.day_input.specs.Opening.{INPUT_BYTES, opens, after_tape, after_sheet, sheet_reading, opening}
@@ -68,8 +69,8 @@ same_asked_lem (q ∷ qs) (r ∷ rs) h =
     λ i. record { what = record { event = e i; priority = p i }; instant = t i; delay = d i } ∷ others i
 
 -- the tape's lines were read to a state with this last instant
-heard_to_lem : (x : Going Heard) (last : ℕ) → heard_to x last ≡ true → (s : Heard) × (x ≡ goes s) × (s.last ≡ last)
-heard_to_lem (goes s) last h = (s, refl, eqb-true s.last last h)
+heard_to_lem : (x : Going Heard) (last : ℕ) → heard_to x last ≡ true → (s : Heard) × (x ≡ goes s) × (last_instant s ≡ last)
+heard_to_lem (goes s) last h = (s, refl, eqb-true (last_instant s) last h)
 heard_to_lem (refused r) last h = absurd (false≢true h)
 
 -- ---- the opening
@@ -90,7 +91,7 @@ module _ (d : Day) (good : GoodOrder (sheet_of_day d)) (nl : NoLoop (sheet_of_da
   opens_read = reads_to d good nl parts.1
 
   -- the tape was read to its end
-  ended : (s : Heard) × (heard d ≡ goes s) × (s.last ≡ d.last)
+  ended : (s : Heard) × (heard d ≡ goes s) × (last_instant s ≡ d.last)
   ended = heard_to_lem (heard d) d.last parts.2
 
   -- its requests

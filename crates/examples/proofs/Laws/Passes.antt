@@ -24,6 +24,7 @@ use Rattle.reader.specs.Reading.{start, sheet_lengths_fit}
 use Rattle.day_split.specs.Split.{sheet_part, tape_part, sheet_lines}
 use Rattle.tape_frames.specs.Frame.{ASK, instant_of, asked_in}
 use Rattle.tape_tests.specs.declared.Heard.{Heard}
+use Rattle.tape_tests.specs.Tests.{last_instant}
 use Rattle.tape.specs.Tape.{tape_read}
 use Rattle.day_input.specs.Opening.{INPUT_BYTES}
 use Rattle.day_lines.specs.Lines.{minute_lines}
@@ -129,7 +130,7 @@ read_found d =
 
 -- the tape's lines were read to this last instant
 abbrev pub heard_to : Going Heard → ℕ → Bool
-heard_to (goes s) last = eqb s.last last
+heard_to (goes s) last = eqb (last_instant s) last
 heard_to (refused r) last = false
 
 -- what a request's frame asks for

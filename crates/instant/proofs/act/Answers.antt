@@ -10,7 +10,7 @@ pub returns : goal.returns
 returns c =
     record {
       wide = c.row_known-2-1.given.fits;
-      solved = subst (λ (full : List ℕ). Solved c.args.levels.now c.args.triggers.now c.args.counts.triggers c.args.enabled.now full c.solve.new.events) c.fill.ensures c.solve.ensures;
+      solved = subst (λ (full : List ℕ). Solved c.args.levels.now c.args.given.now.triggers.now c.args.given.now.counts.triggers c.args.enabled.now full c.solve.new.events) c.fill.ensures c.solve.ensures;
       waits = c.refill.ensures;
       roles = c.roles_after.ensures;
       next = cc;

@@ -8,6 +8,7 @@ use Rattle.std.proofs.Math.ListN.{take, drop, length-drop}
 use Rattle.answers.specs.declared.Name.TheVariants.{Frame}
 use Rattle.answers.specs.declared.Refusal.{Refusal}
 use Rattle.answers.specs.Answers.{refusal, Verdict, pass}
+use Rattle.answers.proofs.Laws.{no_pass}
 use Rattle.text.specs.Lines.{Lines, none, endless, line, lines, first_ended, span}
 use Rattle.text.specs.Laws.Lines.{line_here, endless_here, first_line, last_line}
 use Rattle.line_readers.specs.Column.{in_line}
@@ -32,6 +33,14 @@ pub verdict_stops : {A : Type 0} (v : Verdict) (made : A) (r : Refusal) → by_v
 unfolding by_verdict
 verdict_stops (Ok tt) made r e = no_goes r made (sym e)
 verdict_stops (Err x) made r e = ap Err (same_refusal e)
+
+-- what comes of lines leaves one verdict and, where that is a pass, one thing that was read
+pub walk_one : {A : Type 0} (v w : Verdict) (m n : A) (x : Going A) → by_verdict v m ≡ x → by_verdict w n ≡ x → (v ≡ w) × (v ≡ pass → m ≡ n)
+unfolding by_verdict
+walk_one (Ok a) (Ok b) m n x e f = (refl, λ _. let g : ◌≡◌ {A = Going _} (goes m) (goes n) = e ∙ sym f in cc)
+walk_one (Ok a) (Err r) m n x e f = no_goes r m (f ∙ sym e)
+walk_one (Err r) (Ok b) m n x e f = no_goes r n (e ∙ sym f)
+walk_one (Err r) (Err s) m n x e f = (ap Err (same_refusal (e ∙ sym f)), λ h. no_pass r h)
 
 module _ {A : Type 0} (R : Reader A) where
   -- after a refusal no line is read

@@ -18,7 +18,7 @@ use Rattle.sheet_tests.specs.Laws.{judged_in_line}
 use Rattle.sheet_acts.specs.Acts.{Progress, after}
 use Rattle.reader.specs.Line.{line_step}
 use Rattle.reader.specs.Lines.{at_end, sheet_reader, reads}
-use Rattle.reader.proofs.Laws.Lines.{line_next}
+use Rattle.reader.specs.Laws.OneMore.{line_next}
 use Rattle.reader.specs.Reading.{start}
 
 line_says : (s : Progress) (l : List ℕ) (r : Refusal) → line_step s l ≡ refused r → InLine (λ k. Unit {0}) l (s.seen.line + 1) r

@@ -1,4 +1,4 @@
--- What the code hands back of a line or of all of them, as the definitions say it.
+-- What came of lines, given as an answer beside two tables, as the definitions say it: each answer by itself.
 -- Assumes nothing.
 use Rattle.std.specs.Prelude.{◌≡◌, List, ℕ, Err, Ok, Result}
 use Rattle.std.proofs.Common.{sym, ap, ◌∙◌}

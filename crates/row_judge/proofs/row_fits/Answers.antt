@@ -3,7 +3,7 @@
 use mathlib.Core.Path.{sym, ap, ◌∙◌}
 use Rattle.theory.specs.Sheet.{periodic_fits}
 use Rattle.tables.specs.Layout.{sheet_of}
-use Rattle.tables.specs.Lent.{rules, sheet_in}
+use Rattle.tables.specs.Lent.{rules_of, sheet_in}
 use Rattle.row_judge.proofs.Laws.{fits_periodic, fits_after}
 use borrow.Author.Rules.{rules as search_rules}
 use Rattle.row_judge.proofs.row_fits.Goals as goal
@@ -12,10 +12,10 @@ pub returns-then-k-counts : goal.returns-then-k-counts
 unfolding sheet_of
 returns-then-k-counts c =
     let a = c.args in
-    c.periodic_fits.ensures ∙ ap (periodic_fits a.counts.roles) c.periodic_row-row.ensures ∙ sym (fits_periodic (sheet_in (rules a.counts a.periodics.now a.triggers.now)) a.k (search search_rules))
+    c.periodic_fits.ensures ∙ ap (periodic_fits a.given.now.counts.roles) c.periodic_row-row.ensures ∙ sym (fits_periodic (sheet_in (rules_of a.given.now)) a.k (search search_rules))
 
 pub returns : goal.returns
 unfolding sheet_of
 returns c =
     let a = c.args in
-    c.trigger_fits.ensures ∙ sym (fits_after (sheet_in (rules a.counts a.periodics.now a.triggers.now)) a.k (search search_rules))
+    c.trigger_fits.ensures ∙ sym (fits_after (sheet_in (rules_of a.given.now)) a.k (search search_rules))

@@ -3,7 +3,6 @@
 use mathlib.Core.Path.{refl, sym, ◌∙◌}
 use borrow.Author.Tests.{not-true, not-false, le-leb, lt-leb}
 use Rattle.step_tests.specs.Order.{judge_first}
-use borrow.Author.Rules.{rules}
 use Rattle.step_tests.proofs.judge_first.Goals as goal
 
 pub returns-then-not-lengths_fit : goal.returns-then-not-lengths_fit

@@ -1,6 +1,6 @@
 -- The column of a tape's refusal: what it says, and that it is at one of the tape's lines or at the one after the last.
 -- Assumes nothing.
-use Rattle.std.specs.Prelude.{◌≡◌, refl, ◌⊎◌, Bool, true, false, cond, List, ℕ, ◌+◌, length, Err}
+use Rattle.std.specs.Prelude.{◌≡◌, refl, ◌⊎◌, Bool, true, false, cond, List, ℕ, ◌+◌, length, Err, is_some}
 use Rattle.std.proofs.Common.{sym, ap, ◌∙◌, inl, inr, ⊎_elim, arith}
 use Rattle.answers.specs.declared.Name.TheVariants.{Kind, Request}
 use Rattle.answers.specs.declared.Refusal.{Refusal}
@@ -33,7 +33,7 @@ line_says roles s l r e = judged_in_line (s.line + 1) roles s l r (verdict_stops
 -- after the last line it is KIND
 end_says : (s : Heard) (r : Refusal) → tape_ends s ≡ refused r → r ≡ refusal Kind (s.line + 1)
 unfolding tape_ends
-end_says s r e = by_ended s.ended e
+end_says s r e = by_ended (is_some s.end) e
   where
     by_ended : (b : Bool) → cond b (goes s) (refused (refusal Kind (s.line + 1))) ≡ refused r → r ≡ refusal Kind (s.line + 1)
     by_ended true h = no_goes r s (sym h)

@@ -1,6 +1,7 @@
 -- What a tape that is accepted has: its requests go by rising instants, no more than 32 in a row are of one instant, each is within its limits, and nothing stands after the end.
 -- Assumes nothing.
-use Rattle.std.specs.Prelude.{◌≡◌, Bool, false, not, cond, ◌&&◌, eqb, length}
+use Rattle.std.specs.Prelude.{◌≡◌, Bool, false, cond, ◌&&◌, Option, None, Some, eqb, is_some, is_none, length}
+use Rattle.std.specs.Option.{unwrap_or}
 use Rattle.std.proofs.Math.Path.{refl, ap, subst₂}
 use Rattle.std.proofs.Common.{sym, ◌∙◌, subst, arith}
 use Rattle.std.proofs.Math.Logic.{⊎_elim}
@@ -25,7 +26,7 @@ use Rattle.line_readers.specs.Walks.{Going, goes, refused, walks}
 use Rattle.line_readers.specs.Laws.Walks.{no_goes, walks_first}
 use Rattle.tape_frames.specs.Frame.{ASK, TAPE_END, instant_of, asked_in}
 use Rattle.tape_tests.specs.declared.Heard.{Heard}
-use Rattle.tape_tests.specs.Tests.{LONGEST_DAY, tape_size, of_tape, in_time, ask_fits}
+use Rattle.tape_tests.specs.Tests.{LONGEST_DAY, last_instant, tape_size, of_tape, in_time, ask_fits}
 use Rattle.tape.specs.Tape.{many_with, heard_after, tape_ends, tape_reader, line_asks, asks_in}
 use Rattle.tape.specs.Fine.{is_ask, at, more, Fine}
 use Rattle.tape.specs.Laws.Line.{Passed, took_line, room_says}
@@ -50,13 +51,13 @@ line_asks_lem l u d e p h =
 
 -- after a request, and after the end
 module _ (s : Heard) (f : List ℕ) where
-  after_ask : eqb (kind f) ASK ≡ true → ((heard_after s f).ended ≡ false) × ((heard_after s f).instant ≡ instant_of f) × ((heard_after s f).many ≡ more s.instant s.many (instant_of f))
+  after_ask : eqb (kind f) ASK ≡ true → ((heard_after s f).end ≡ None) × ((heard_after s f).instant ≡ instant_of f) × ((heard_after s f).many ≡ more s.instant s.many (instant_of f))
   unfolding heard_after many_with
   after_ask k = rw k (refl, refl, refl)
 
-  after_end_lem : eqb (kind f) ASK ≡ false → ((heard_after s f).ended ≡ true) × ((heard_after s f).last ≡ instant_of f)
+  after_end_lem : eqb (kind f) ASK ≡ false → (heard_after s f).end ≡ Some (instant_of f)
   unfolding heard_after
-  after_end_lem k = rw k (refl, refl)
+  after_end_lem k = rw k refl
 
 -- a frame has a byte
 some_byte : (l : List ℕ) → framed l ≡ true → 1 ≤ length (bytes_of l)
@@ -81,7 +82,7 @@ is_end roles s l p k =
     ⊎_elim
     (λ (e : eqb (kind f) TAPE_END ≡ true). eqb-true (kind f) TAPE_END e)
     (λ (e : eqb (kind f) TAPE_END ≡ false).
-    let q : eqb (length f) (tape_size (kind f)) ≡ true = and_left (eqb (length f) (tape_size (kind f))) (not s.ended) p.of_tape in
+    let q : eqb (length f) (tape_size (kind f)) ≡ true = and_left (eqb (length f) (tape_size (kind f))) (is_none s.end) p.of_tape in
     let z : eqb (length f) 0 ≡ true = rw (k, e) at q in
     absurd (omega (arith, eqb-true (length f) 0 z, some_byte l p.is_framed)))
     (test (eqb (kind f) TAPE_END))
@@ -103,12 +104,12 @@ module _ (roles : ℕ) (z : Heard) where
       record { passed = t.0; others = subst (λ (y : Heard). GoesOn y ls) (sym t.1) x.2 }
 
   -- nothing stands after the end
-  ended_none : (s : Heard) (ls : Lines) → s.ended ≡ true → GoesOn s ls → ls ≡ none
+  ended_none : (s : Heard) (ls : Lines) → is_some s.end ≡ true → GoesOn s ls → ls ≡ none
   unfolding walks of_tape
   ended_none s none e h = refl
   ended_none s (endless l) e h = no_goes _ z h
   ended_none s (line l ls) e h =
-      let p = and_right (eqb _ (tape_size (kind (bytes_of l)))) (not s.ended) (first_of s l ls h).passed.of_tape in
+      let p = and_right (eqb _ (tape_size (kind (bytes_of l)))) (is_none s.end) (first_of s l ls h).passed.of_tape in
       absurd (false≢true (rw e at p))
 
   -- THE LAW
@@ -129,13 +130,13 @@ module _ (roles : ℕ) (z : Heard) where
         (rw k at q),
         subst₂ (λ (t n : ℕ). Fine roles t n ls) a.1 a.2 g,
       ) in
-      (ask, λ k. ended_none (heard_after s f) ls (after_end_lem s f k).0 x.others)
+      (ask, λ k. ended_none (heard_after s f) ls (ap is_some (after_end_lem s f k)) x.others)
     where
       from_time : (s : Heard) (f : List ℕ) → kind f ≡ ASK → in_time s f ≡ true → s.instant ≤ instant_of f
       from_time s f k h = leb-true _ _ (rw k at h)
 
   -- the last instant is within its limit
-  pub accepted_last : (s : Heard) (ls : Lines) → s.ended ≡ false → GoesOn s ls → z.last ≤ LONGEST_DAY
+  pub accepted_last : (s : Heard) (ls : Lines) → s.end ≡ None → GoesOn s ls → last_instant z ≤ LONGEST_DAY
   unfolding walks tape_ends in_time
   accepted_last s none e h = no_goes _ z (rw e at h)
   accepted_last s (endless l) e h = no_goes _ z h
@@ -147,17 +148,18 @@ module _ (roles : ℕ) (z : Heard) where
       (λ (k : is_ask l ≡ false).
       let n = heard_after s f in
       let a = after_end_lem s f k in
+      let there : is_some n.end ≡ true = ap is_some a in
       let e : kind f ≡ TAPE_END = is_end roles s l x.passed k in
-      let w : n ≡ z = ends n a.0 (subst (λ (y : Lines). GoesOn n y) (ended_none n ls a.0 x.others) x.others) in
+      let w : n ≡ z = ends n there (subst (λ (y : Lines). GoesOn n y) (ended_none n ls there x.others) x.others) in
       let i : leb (instant_of f) LONGEST_DAY ≡ true = and_right (leb s.instant (instant_of f)) (leb (instant_of f) LONGEST_DAY) (at_end_lem s f e x.passed.in_time) in
-      omega (arith, leb-true (instant_of f) LONGEST_DAY i, a.1, ap (λ (y : Heard). y.last) w))
+      omega (arith, leb-true (instant_of f) LONGEST_DAY i, ap (λ (o : Option ℕ). unwrap_or o 0) a, ap last_instant w))
       (test (is_ask l))
     where
       at_end_lem : (s : Heard) (f : List ℕ) → kind f ≡ TAPE_END → in_time s f ≡ true → (leb s.instant (instant_of f) && leb (instant_of f) LONGEST_DAY) ≡ true
       at_end_lem s f k h = rw k at h
 
-      ends : (n : Heard) → n.ended ≡ true → walks (tape_reader roles) (goes n) none ≡ goes z → n ≡ z
-      ends n e h = let g : ◌≡◌ {A = Going Heard} (goes n) (goes z) = sym (where_true n.ended (goes n) (refused _) e) ∙ h in cc
+      ends : (n : Heard) → is_some n.end ≡ true → walks (tape_reader roles) (goes n) none ≡ goes z → n ≡ z
+      ends n e h = let g : ◌≡◌ {A = Going Heard} (goes n) (goes z) = sym (where_true (is_some n.end) (goes n) (refused _) e) ∙ h in cc
 
 -- every request of such lines is within its limits
 pub fine_within : (roles t n : ℕ) (ls : Lines) → Fine roles t n ls → (u d e p : ℕ) → asks_in ls u d e p ≡ true → request_fits roles d e p ≡ true

@@ -7,7 +7,7 @@ use Rattle.tape_batches.proofs.take_batch.Goals as goal
 
 pub loop-line-preserved : goal.loop-line-preserved
 loop-line-preserved c =
-    takes_on _ _ _ _ _ c.loop-line.invariant.1 _ c.in-Some.ensures (sym c.is_one_more.ensures ∙ not-false _ c.if-not-is_one_more.false-raw) _ c.put.ensures c.loop-line.invariant.0
+    takes_on _ _ _ _ _ c.loop-line.invariant.1 _ c.in-Some.ensures (sym c.is_one_more.ensures ∙ not-false _ c.if-not-is_one_more.false-raw) _ (rw c.asked_in.ensures at c.put.ensures) c.loop-line.invariant.0
 
 pub returns-then-not-is_one_more : goal.returns-then-not-is_one_more
 returns-then-not-is_one_more c =

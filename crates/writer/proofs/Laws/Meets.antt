@@ -24,7 +24,7 @@ use Rattle.prints.specs.Print.{hex_of, check_of}
 use Rattle.prints.specs.Laws.Reads.{Bytes, bytes_none, bytes_cons, bytes_hex, bytes_check, framed_hex, checked_check}
 use Rattle.writer.specs.RowLines.{GoodLine, HeaderLine, PeriodicLine, TriggerLine, EndLine}
 use Rattle.writer.specs.Made.{header_frame, periodic_frame, row_place, body_size, trigger_whole, trigger_frame, end_frame}
-use Rattle.writer.specs.Long.{body_long}
+use Rattle.writer.specs.Laws.Long.{body_long}
 use Rattle.writer.proofs.Laws.Rows.{periodic_at_lem, count_at, event_at, condition_at, last_at_lem}
 
 -- ---- bytes

@@ -7,7 +7,7 @@ use Rattle.std.proofs.Math.Seq.{paste, paste-zero, take-length}
 use Rattle.tables.specs.Layout.{byte_at}
 use Rattle.prints.specs.Print.{line_of}
 use Rattle.prints.specs.Laws.Pasted.{paste_append}
-use Rattle.writer.specs.Long.{periodic_short, trigger_short}
+use Rattle.writer.specs.Laws.Long.{periodic_short, trigger_short}
 use Rattle.writer.specs.Made.{body_size, trigger_whole, body_frame, trigger_frame, text_below, periodic_text, trigger_text, Puts, FewInBodies}
 
 -- nothing was put yet

@@ -31,4 +31,7 @@ loop-i-preserved g c =
 pub returns : goal.returns
 returns g c =
     let rows = g.R.Rows in
-    puts_end _ _ _ _ c.loop-i.i c.args.n (rows.text c.args.table.now) c.loop-i.invariant (search rules)
+    record {
+      puts = puts_end _ _ _ _ c.loop-i.i c.args.n (rows.text c.args.table.now) c.loop-i.invariant (search rules);
+      bytes = λ i. (c.type_inv.table i).fits;
+    }

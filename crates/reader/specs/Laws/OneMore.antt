@@ -1,4 +1,4 @@
--- Laws of a sheet's lines: one that goes on passed each test of its frame and did what it does, and is one line more.
+-- A line that goes on passed each test of its frame and did what it does, and is one line more. An `impl` of the code rests on it, so it stands here and not with the other laws.
 -- Assumes nothing.
 use Rattle.std.specs.Prelude.{◌≡◌, List, ℕ, ◌+◌}
 use Rattle.std.proofs.Common.{sym, ap, ◌∙◌}

@@ -1,0 +1,2 @@
+-- Laws that an `impl` of the code names, which can name none of proofs/.
+pub mod OneMore
