@@ -17,24 +17,16 @@ pub enum Stop {
 
 // ---- digits
 
-// The value of a digit; 16 if it is none.
+// The value of a digit, if it is one.
 // Kept: `frames` has a digit too, but 0 for what is none, which a form has to tell apart; and a case is read by nothing that the comparison tries.
-fn digit(b: u8) -> u8
+fn digit(b: u8) -> Option<u8>
     ensures { result ≡ value_of b }
 {
-    if b < 48 {
-        return 16;
+    match b {
+        b'0'..=b'9' => Some(b - b'0'),
+        b'A'..=b'F' => Some(b - (b'A' - 10)),
+        _ => None,
     }
-    if b < 58 {
-        return b - 48;
-    }
-    if b < 65 {
-        return 16;
-    }
-    if b < 71 {
-        return b - 55;
-    }
-    16
 }
 
 // The digit of a number's last four bits.
@@ -42,17 +34,14 @@ fn glyph(x: usize) -> u8
     ensures { result ≡ glyph_of (x % 16) }
 {
     let d = (x % 16) as u8;
-    if d < 10 {
-        return 48 + d;
-    }
-    55 + d
+    if d < 10 { b'0' + d } else { b'A' - 10 + d }
 }
 
-// A number with one digit more; only the last sixteen digits count.
+// A number with one digit more; only the last sixteen digits count, and what is no digit counts as 0.
 fn with_digit(v: usize, b: u8) -> usize
     ensures { result ≡ with_digit v b }
 {
-    16 * (v % 1152921504606846976) + (digit(b) % 16) as usize
+    16 * (v % 1152921504606846976) + digit(b).unwrap_or(0) as usize
 }
 
 // The number of the digits at `from` and on, before `to`.
@@ -93,8 +82,8 @@ pub fn counts_at(line: &[u8], from: u8) -> Counts {
 fn is_as(b: u8, form: u8) -> bool
     ensures { result ≡ as_form b form }
 {
-    if form == 48 {
-        return digit(b) < 16;
+    if form == b'0' {
+        return digit(b).is_some();
     }
     b == form
 }
@@ -125,6 +114,7 @@ pub fn take_line(line: &mut [u8], form: &[u8]) -> Result<(), Stop> {
 }
 
 // Takes n bytes of any values and a line's end, if there is room for them.
+// Kept: n stands beside `text`, for the case says it: whether there is room is tested here once, as the clause and the edit `text_without_its_end` say.
 pub fn take_text(text: &mut [u8], n: usize) -> Result<(), Stop>
     ensures { OnOk result (n < length text.old) }
 {
@@ -229,6 +219,7 @@ pub fn put_answer(out: &mut [u8], answer: Answer) -> usize {
 }
 
 // Prints what was put before n as a line, without the blank that it begins with. Where it is not printed the run ends.
+// Kept: n stands beside `out`, for with `&mut out[..n + 1]` each program would test for itself that the line's end has room.
 pub fn print(out: &mut [u8], n: usize) -> Result<(), Stop> {
     if n < out.len() {
         out[n] = 10;

@@ -69,7 +69,8 @@ use Rattle.instant.specs.Acted.{Acted}
 use Rattle.step.specs.Outcome.{Outcome}
 use Rattle.entry.specs.Listed.{listed}
 use Rattle.tape_tests.specs.declared.Heard.{Heard}
-use Rattle.tape_frames.specs.Frame.{asked_in, instant_of}
+use Rattle.tape_frames.specs.declared.Kind.{Kind}
+use Rattle.tape_frames.specs.Frame.{asked_in, instant_of, kind_in}
 use Rattle.tape_tests.specs.Tests.{judge_tape}
 use Rattle.tape.specs.Took.{took}
 use Rattle.tape.specs.Tape.{tape_read}
@@ -598,6 +599,10 @@ pub entry_step_requests : (given : Rules) (requests : List Request) (instant ena
 entry_step_requests given requests instant enabled waiting events = parts _ (entry.step_requests_exact (rules_of given) requests (lent instant enabled waiting events))
 
 -- ---- tape_frames
+
+-- tape_frames::kind_of
+pub tape_frames_kind_of : (line : List ℕ) → Exact (λ r. r ≡ kind_in (bytes_of line))
+tape_frames_kind_of line r r' = exact
 
 -- tape_frames::instant_of
 pub tape_frames_instant_of : (line : List ℕ) → Exact (λ r. r ≡ instant_of (bytes_of line))

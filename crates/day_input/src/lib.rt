@@ -19,7 +19,7 @@ pub struct Plan {
     pub last: u32,
 }
 
-// The tape, after the sheet passed: it begins at the byte `from`, after so many lines.
+// The tape, after the sheet passed: it begins at the byte `from`, after so many lines. (A tape that was read has its end, so that the 0 is never taken.)
 fn open_tape(tape: &[u8], counts: Counts, from: usize, before: usize) -> Result<Plan, Refusal>
     requires { (length tape.now ≤ INPUT_BYTES) × (before ≤ INPUT_BYTES) }
     ensures { result ≡ by_tape tape.now counts from before }

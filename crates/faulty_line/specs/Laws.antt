@@ -1,6 +1,6 @@
 -- Laws of the line for the screen: where it stands, that it is the line of the place, and the search for it.
 -- Assumes nothing.
-use Rattle.std.specs.Prelude.{◌≡◌, Bool, true, false, cond, List, [], ◌∷◌, ◌++◌, ℕ, zero, suc, ◌+◌, ◌-◌, ◌≤◌, ◌<◌, eqb, length, get_or, take, drop, Err, Ok, Result}
+use Rattle.std.specs.Prelude.{◌≡◌, true, false, List, [], ◌∷◌, ◌++◌, ℕ, zero, suc, ◌+◌, ◌-◌, ◌≤◌, ◌<◌, eqb, length, get_or, take, drop, Err, Ok, Result}
 use Rattle.std.proofs.Math.Path.{refl}
 use Rattle.std.proofs.Common.{sym, ap, ◌∙◌, subst, ⊎_elim, append_assoc, append-nil, arith, length-append, length-drop, length-take-le}
 use Rattle.std.proofs.Math.Logic.{by_cases}
@@ -12,6 +12,7 @@ use Rattle.text.specs.Lines.{LINE_END, Lines, none, endless, line, lines, all_li
 use Rattle.text.specs.Laws.Lines.{line_here, endless_here, end_le, text_of, text_lines}
 use Rattle.answers.specs.declared.Refusal.{Refusal}
 use Rattle.faulty_line.specs.declared.Part.{Part}
+use Rattle.faulty_line.specs.declared.Part.TheVariants.{Sheet, Tape}
 use Rattle.faulty_line.specs.declared.Span.{Span}
 use Rattle.faulty_line.specs.Part.{has_line, spot_of, tapes_end, in_tape, in_sheet, faulty_part, shown}
 pub mod Shown
@@ -94,11 +95,21 @@ module _ (text : List ℕ) (at e : ℕ) (ends : e ≡ at + span (drop at text)) 
 
 -- ---- the part of a refusal
 
+-- what a part has of its text
+abbrev pub span_of : Part → Span
+span_of (Sheet g) = g
+span_of (Tape g) = g
+
+-- it begins before its end, and ends within this text
+pub record InText (text : List ℕ) (g : Span) : Type 0 where
+  pub begins : g.from ≤ g.to
+  pub ends : g.to ≤ length text
+
 module _ (sheet tape : List ℕ) where
   -- a part begins before its end, and ends within its text
-  pub record Within (p : Part) : Type 0 where
-    pub begins : p.from ≤ p.to
-    pub ends : p.to ≤ length (cond p.tape tape sheet)
+  abbrev pub Within : Part → Type 0
+  Within (Sheet g) = InText sheet g
+  Within (Tape g) = InText tape g
 
   end_within : Within (tapes_end tape)
   end_within = record { begins = omega arith; ends = omega arith }
@@ -143,23 +154,27 @@ module _ (sheet tape : List ℕ) where
 
     -- as the code has it: of the tape, or else of the sheet
     module _ (p : Part) (is : p ≡ faulty_part sheet tape r) where
-      pub begins_so : p.from ≤ p.to
-      begins_so = (subst Within (sym is) part_within).begins
+      pub begins_so : (span_of p).from ≤ (span_of p).to
+      begins_so = by_text p (subst Within (sym is) part_within)
+        where
+          by_text : (q : Part) → Within q → (span_of q).from ≤ (span_of q).to
+          by_text (Sheet g) w = w.begins
+          by_text (Tape g) w = w.begins
 
-      text_so : (b : Bool) → p.tape ≡ b → p.to ≤ length (cond b tape sheet)
-      text_so b e = subst (λ (x : Bool). p.to ≤ length (cond x tape sheet)) e (subst Within (sym is) part_within).ends
+      text_so : (q : Part) → p ≡ q → Within q
+      text_so q e = subst Within (sym is ∙ e) part_within
 
-      pub ends_in_tape : p.tape ≡ true → p.to ≤ length tape
-      ends_in_tape = text_so true
+      pub ends_in_tape : (g : Span) → p ≡ Tape g → g.to ≤ length tape
+      ends_in_tape g e = (text_so (Tape g) e).ends
 
-      pub ends_in_sheet : p.tape ≡ false → p.to ≤ length sheet
-      ends_in_sheet = text_so false
+      pub ends_in_sheet : (g : Span) → p ≡ Sheet g → g.to ≤ length sheet
+      ends_in_sheet g e = (text_so (Sheet g) e).ends
 
-      shows : (b : Bool) → p.tape ≡ b → take (p.to - p.from) (drop p.from (cond b tape sheet)) ≡ shown (faulty_part sheet tape r) sheet tape
-      shows b e = ap (λ (x : Bool). take (p.to - p.from) (drop p.from (cond x tape sheet))) (sym e) ∙ ap (λ (q : Part). shown q sheet tape) is
+      shows : (q : Part) → p ≡ q → shown q sheet tape ≡ shown (faulty_part sheet tape r) sheet tape
+      shows q e = ap (λ (x : Part). shown x sheet tape) (sym e ∙ is)
 
-      pub shows_tape : p.tape ≡ true → take (p.to - p.from) (drop p.from tape) ≡ shown (faulty_part sheet tape r) sheet tape
-      shows_tape = shows true
+      pub shows_tape : (g : Span) → p ≡ Tape g → take (g.to - g.from) (drop g.from tape) ≡ shown (faulty_part sheet tape r) sheet tape
+      shows_tape g = shows (Tape g)
 
-      pub shows_sheet : p.tape ≡ false → take (p.to - p.from) (drop p.from sheet) ≡ shown (faulty_part sheet tape r) sheet tape
-      shows_sheet = shows false
+      pub shows_sheet : (g : Span) → p ≡ Sheet g → take (g.to - g.from) (drop g.from sheet) ≡ shown (faulty_part sheet tape r) sheet tape
+      shows_sheet g = shows (Sheet g)

@@ -7,6 +7,7 @@ use Rattle.answers.specs.declared.Name.TheVariants.{Length, Frame, Check, Kind, 
 use Rattle.answers.specs.declared.Refusal.{Refusal}
 use Rattle.text.specs.Lines.{Lines, none, endless, line, lines, all_lines}
 use Rattle.faulty_line.specs.declared.Part.{Part}
+use Rattle.faulty_line.specs.declared.Part.TheVariants.{Sheet, Tape}
 
 -- which refusals of a sheet or of a tape have a line for their place
 abbrev pub has_line : Name → Bool
@@ -32,15 +33,15 @@ spot_of from (suc k) (line l ls) = spot_of (from + length l + 1) k ls
 
 -- the empty part at the tape's end
 abbrev pub tapes_end : List ℕ → Part
-tapes_end tape = record { tape = true; from = length tape; to = length tape }
+tapes_end tape = Tape (record { from = length tape; to = length tape })
 
 -- what was found in the tape, and what was found in the sheet: lines are counted through the sheet and on through the tape
 abbrev pub in_tape : List ℕ → Result Span ℕ → Part
-in_tape tape (Ok g) = record { tape = true; from = g.from; to = g.to }
+in_tape tape (Ok g) = Tape g
 in_tape tape (Err k) = tapes_end tape
 
 abbrev pub in_sheet : List ℕ → Result Span ℕ → Part
-in_sheet tape (Ok g) = record { tape = false; from = g.from; to = g.to }
+in_sheet tape (Ok g) = Sheet g
 in_sheet tape (Err k) = in_tape tape (spot_of 0 k (lines tape))
 
 -- THE PART of a refusal of a sheet or of its tape: the line of its place, counted from 1; where the place is no line, or the two have not so many, the empty part at the tape's end
@@ -52,7 +53,8 @@ faulty_part sheet tape r =
 
 -- the bytes of a part
 abbrev pub shown : Part → List ℕ → List ℕ → List ℕ
-shown p sheet tape = take (p.to - p.from) (drop p.from (cond p.tape tape sheet))
+shown (Sheet g) sheet tape = take (g.to - g.from) (drop g.from sheet)
+shown (Tape g) sheet tape = take (g.to - g.from) (drop g.from tape)
 
 -- the lines of both in order, by which it is said that a part is the line of a place: `line_shown` (claims/Demands)
 abbrev pub both_lines : List ℕ → List ℕ → List (List ℕ)
@@ -66,4 +68,5 @@ start_of (l ∷ ls) (suc n) = length l + 1 + start_of ls n
 
 -- line n of these, as a part of the text
 abbrev pub part_at : Bool → List (List ℕ) → ℕ → Part
-part_at of_tape ls n = record { tape = of_tape; from = start_of ls n; to = start_of ls n + length (get_or ls n []) }
+part_at false ls n = Sheet (record { from = start_of ls n; to = start_of ls n + length (get_or ls n []) })
+part_at true ls n = Tape (record { from = start_of ls n; to = start_of ls n + length (get_or ls n []) })

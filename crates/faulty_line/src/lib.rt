@@ -7,20 +7,18 @@ ghost use Rattle.faulty_line.specs.Part.{has_line, spot_of, tapes_end, in_tape, 
 
 use answers::{Name, Refusal};
 
-// A part of the sheet or of the tape: of which, from which byte, and up to which.
-// Kept: a flag beside the two, for either text has a part, and `shown` (faulty_line/Part) asks which.
+// What stands in a text from one byte up to another. Of a line the other is its 0A or the end of the text.
 #[derive(Clone, Copy)]
-pub struct Part {
-    pub tape: bool,
+pub struct Span {
     pub from: usize,
     pub to: usize,
 }
 
-// A line of a text: from which byte, and up to which, its 0A or the end of the text.
+// A part of the sheet or of the tape.
 #[derive(Clone, Copy)]
-struct Span {
-    from: usize,
-    to: usize,
+pub enum Part {
+    Sheet(Span),
+    Tape(Span),
 }
 
 // A refusal of this name is at a line.
@@ -69,11 +67,10 @@ fn seek(text: &[u8], k: u32) -> Result<Span, u32>
 fn end_of(tape: &[u8]) -> Part
     ensures { result ≡ tapes_end tape.now }
 {
-    Part {
-        tape: true,
+    Part::Tape(Span {
         from: tape.len(),
         to: tape.len(),
-    }
+    })
 }
 
 // What a line that was found in the tape is, or else the tape's end.
@@ -82,11 +79,7 @@ fn in_tape(tape: &[u8], k: u32) -> Part
 {
     let s = seek(tape, k);
     match s {
-        Ok(g) => Part {
-            tape: true,
-            from: g.from,
-            to: g.to,
-        },
+        Ok(g) => Part::Tape(g),
         Err(k) => end_of(tape),
     }
 }
@@ -104,11 +97,7 @@ pub fn faulty_part(sheet: &[u8], tape: &[u8], r: Refusal) -> Part
     }
     let s = seek(sheet, r.place - 1);
     match s {
-        Ok(g) => Part {
-            tape: false,
-            from: g.from,
-            to: g.to,
-        },
+        Ok(g) => Part::Sheet(g),
         Err(k) => in_tape(tape, k),
     }
 }
@@ -118,10 +107,8 @@ pub fn faulty_line<'a>(sheet: &'a [u8], tape: &'a [u8], r: Refusal) -> &'a [u8]
     ensures { result.now ≡ shown (faulty_part sheet.now tape.now r) sheet.now tape.now }
 {
     let p = faulty_part(sheet, tape, r);
-    let from = p.from;
-    let to = p.to;
-    if p.tape {
-        return &tape[from..to];
+    match p {
+        Part::Sheet(g) => &sheet[g.from..g.to],
+        Part::Tape(g) => &tape[g.from..g.to],
     }
-    &sheet[from..to]
 }

@@ -11,9 +11,8 @@ ghost use Rattle.tape.specs.Laws.Line.{line_next};
 ghost use Rattle.tape.specs.Took.{took};
 
 use answers::{Name, Refusal, Verdict};
-use frames::byte_at;
 use line_readers::LineReader;
-use tape_frames::{ASK, instant_of};
+use tape_frames::{Kind, instant_of, kind_of};
 use tape_tests::Heard;
 
 // How many requests in a row are of instant t, with one more of it.
@@ -33,19 +32,19 @@ fn heard_after(line: &[u8], s: Heard) -> Heard
     ensures { result ≡ heard_after s (bytes_of line.now) }
 {
     let t = instant_of(line);
-    if byte_at(line, 0) == ASK {
-        return Heard {
-            line: s.line + 1,
+    let line_after = s.line + 1;
+    match kind_of(line) {
+        Some(Kind::Ask) => Heard {
+            line: line_after,
             instant: t,
             many: one_more(s, t),
             end: None,
-        };
-    }
-    Heard {
-        line: s.line + 1,
-        instant: s.instant,
-        many: s.many,
-        end: Some(t),
+        },
+        _ => Heard {
+            line: line_after,
+            end: Some(t),
+            ..s
+        },
     }
 }
 

@@ -9,9 +9,8 @@ ghost use Rattle.requests.specs.Flat.{FLAT_NUMBERS, put_at};
 ghost use Rattle.tape_frames.specs.Frame.{asked_in};
 ghost use Rattle.tape_batches.specs.Batch.{is_of, takes, rest, none_yet};
 
-use frames::byte_at;
 use requests::{FLAT_NUMBERS, put};
-use tape_frames::{ASK, asked_in, instant_of};
+use tape_frames::{Kind, asked_in, instant_of, kind_of};
 use theory::REQUESTS;
 
 // The requests of one instant as flat numbers, how many there are, and where the tape goes on.
@@ -26,7 +25,7 @@ pub struct Batch {
 fn is_one_more(line: &[u8], t: u32, n: usize) -> bool
     ensures { result ≡ (is_of t line.now && ltb n REQUESTS) }
 {
-    (byte_at(line, 0) == ASK) & (instant_of(line) == t) & (n < REQUESTS)
+    matches!(kind_of(line), Some(Kind::Ask)) & (instant_of(line) == t) & (n < REQUESTS)
 }
 
 // The requests of instant t that stand in a tape at `at` and on, at most 32.

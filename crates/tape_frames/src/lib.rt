@@ -4,10 +4,33 @@
 ghost use Rattle.std.specs.Prelude.{◌≡◌};
 ghost use Rattle.frames.specs.Frame.{bytes_of};
 ghost use Rattle.requests.specs.Asked.{request_of};
-ghost use Rattle.tape_frames.specs.Frame.{instant_of, asked_in};
+ghost use Rattle.tape_frames.specs.Frame.{kind_in, instant_of, asked_in};
 
 use frames::{byte_at, four_at};
 use requests::Request;
+
+// The first bytes of a tape's frames.
+const ASK: u8 = 0x40;
+
+const TAPE_END: u8 = 0xf1;
+
+// The kinds of a tape's frames: a request, and the end.
+#[derive(Clone, Copy, PartialEq, Eq)]
+pub enum Kind {
+    Ask,
+    End,
+}
+
+// The kind of a line's frame, which its first byte says; none where that byte is of no kind.
+pub fn kind_of(line: &[u8]) -> Option<Kind>
+    ensures { result ≡ kind_in (bytes_of line.now) }
+{
+    match byte_at(line, 0) {
+        ASK => Some(Kind::Ask),
+        TAPE_END => Some(Kind::End),
+        _ => None,
+    }
+}
 
 // The instant that a line's frame says: a request's, or the last one.
 pub fn instant_of(line: &[u8]) -> u32
@@ -26,9 +49,3 @@ pub fn asked_in(line: &[u8]) -> Request
         delay: byte_at(line, 7),
     }
 }
-
-// The kinds of a tape's frames: a request, and the end.
-// Kept: a line may begin with any byte, and `take_batch` and `read_tape` promise their answer of each, so that an enum would need a variant for each byte that is no kind.
-pub const ASK: u8 = 0x40;
-
-pub const TAPE_END: u8 = 0xf1;

@@ -19,7 +19,7 @@ use Rattle.answers.specs.Answers.{Verdict}
 abbrev pub LONGEST_DAY : ℕ
 LONGEST_DAY = 10080
 
--- the last instant that the end said, once it was there
+-- the last instant that the end said, and 0 while it was not there
 abbrev pub last_instant : Heard → ℕ
 last_instant s = unwrap_or s.end 0
 

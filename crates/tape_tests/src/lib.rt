@@ -5,13 +5,13 @@ ghost use Rattle.std.specs.Prelude.{◌≡◌};
 ghost use Rattle.answers.specs.declared.Name.TheVariants.{Request};
 ghost use Rattle.line_readers.specs.Order.{in_order};
 ghost use Rattle.frames.specs.Frame.{bytes_of};
+ghost use Rattle.kinds.specs.Kinds.{kind};
 ghost use Rattle.tape_frames.specs.Frame.{instant_of};
 ghost use Rattle.tape_tests.specs.Tests.{tape_size, of_tape, room_for_request, in_time, ask_fits, tape_tests, judge_tape};
 
 use answers::{Name, Verdict};
-use frames::byte_at;
 use line_readers::Tests;
-use tape_frames::{ASK, TAPE_END, asked_in, instant_of};
+use tape_frames::{Kind, asked_in, instant_of, kind_of};
 
 // The last instant of a day is at most this.
 const LONGEST_DAY: u32 = 10080;
@@ -32,24 +32,22 @@ pub struct Heard {
     pub end: Option<u32>,
 }
 
-// How many bytes a frame of kind k has.
-fn size_of(k: u8) -> usize
-    ensures { result ≡ tape_size k }
+// How many bytes a line's frame has by its kind; 0 where it is of no kind.
+fn size_of(line: &[u8]) -> usize
+    ensures { result ≡ tape_size (kind (bytes_of line.now)) }
 {
-    if k == ASK {
-        return 9;
+    match kind_of(line) {
+        Some(Kind::Ask) => 9,
+        Some(Kind::End) => 6,
+        None => 0,
     }
-    if k == TAPE_END {
-        return 6;
-    }
-    0
 }
 
 // A line's frame passes KIND.
 fn of_tape(line: &[u8], s: Heard) -> bool
     ensures { result ≡ of_tape s (bytes_of line.now) }
 {
-    let sized = frames::count(line) == size_of(byte_at(line, 0));
+    let sized = frames::count(line) == size_of(line);
     sized & s.end.is_none()
 }
 
@@ -58,10 +56,10 @@ fn has_room(line: &[u8], t: u32, s: Heard) -> bool
     requires { t ≡ instant_of (bytes_of line.now) }
     ensures { result ≡ room_for_request s (bytes_of line.now) }
 {
-    if byte_at(line, 0) == ASK {
-        return (t != s.instant) | (s.many < REQUESTS);
+    match kind_of(line) {
+        Some(Kind::Ask) => (t != s.instant) | (s.many < REQUESTS),
+        _ => true,
     }
-    true
 }
 
 // A frame of instant t passes FIELD.
@@ -69,20 +67,20 @@ fn in_time(line: &[u8], t: u32, s: Heard) -> bool
     requires { t ≡ instant_of (bytes_of line.now) }
     ensures { result ≡ in_time s (bytes_of line.now) }
 {
-    if byte_at(line, 0) == TAPE_END {
-        return (s.instant <= t) & (t <= LONGEST_DAY);
+    match kind_of(line) {
+        Some(Kind::End) => (s.instant <= t) & (t <= LONGEST_DAY),
+        _ => s.instant <= t,
     }
-    s.instant <= t
 }
 
 // A line's frame passes REQUEST.
 fn ask_fits(line: &[u8], roles: u8) -> bool
     ensures { result ≡ ask_fits roles (bytes_of line.now) }
 {
-    if byte_at(line, 0) == ASK {
-        return requests::request_fits(roles, asked_in(line));
+    match kind_of(line) {
+        Some(Kind::Ask) => requests::request_fits(roles, asked_in(line)),
+        _ => true,
     }
-    true
 }
 
 // The tests of a line of a tape, in order: FRAME, CHECK, KIND, TOO MANY, FIELD, REQUEST.

@@ -4,7 +4,7 @@
 
 use answers::{Name, Refusal};
 use cases::{Stop, put, value};
-use faulty_line::Part;
+use faulty_line::{Part, Span};
 
 // The most bytes of a sheet and of a tape in a case.
 const MOST: usize = 0x18000;
@@ -26,31 +26,37 @@ fn named(number: usize) -> Name {
     }
 }
 
-// A line is the text from `from` up to `to`.
-fn is_part(line: &[u8], text: &[u8], from: usize, to: usize) -> bool {
-    text.get(from..to) == Some(line)
+// A line is what stands there in the text.
+fn is_part(line: &[u8], text: &[u8], g: Span) -> bool {
+    text.get(g.from..g.to) == Some(line)
 }
 
 // The line that is returned is the part that is told.
 fn agrees<'a>(sheet: &'a [u8], tape: &'a [u8], r: Refusal, p: Part) -> bool {
     let line = faulty_line::faulty_line(sheet, tape, r);
-    if p.tape {
-        return is_part(line, tape, p.from, p.to);
+    match p {
+        Part::Sheet(g) => is_part(line, sheet, g),
+        Part::Tape(g) => is_part(line, tape, g),
     }
-    is_part(line, sheet, p.from, p.to)
+}
+
+// The number of the text that a part is of, and where in it the part stands.
+fn told(p: Part) -> (usize, Span) {
+    match p {
+        Part::Sheet(g) => (0, g),
+        Part::Tape(g) => (1, g),
+    }
 }
 
 // Prints the result: which text, from where, up to where. A part that is not the line returned is told as of text 2, which there is not.
 fn try_refusal<'a>(sheet: &'a [u8], tape: &'a [u8], r: Refusal) -> Result<(), Stop> {
     let mut out = [0u8; 64];
     let p = faulty_line::faulty_part(sheet, tape, r);
-    let mut which = p.tape as usize;
-    if !agrees(sheet, tape, r, p) {
-        which = 2;
-    }
+    let (text, g) = told(p);
+    let which = if agrees(sheet, tape, r, p) { text } else { 2 };
     let a = put(&mut out, 0, which, 1);
-    let b = put(&mut out, a, p.from, 8);
-    let n = put(&mut out, b, p.to, 8);
+    let b = put(&mut out, a, g.from, 8);
+    let n = put(&mut out, b, g.to, 8);
     cases::print(&mut out, n)
 }
 

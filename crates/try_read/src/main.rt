@@ -4,13 +4,18 @@
 
 use answers::Refusal;
 use cases::{Stop, four, put, put_row, value};
-use tables::{Counts, byte};
+use tables::{Counts, Rules, byte};
 
 // ---- the mark
 
 // The bytes at `from` and on, before `to`, are all b.
 fn all_are(table: &[u8], from: usize, to: usize, b: u8) -> bool {
     (from..to).all(|i| byte(table, i) == b)
+}
+
+// All from `from` on are b.
+fn all_past(table: &[u8], from: usize, b: u8) -> bool {
+    all_are(table, from, table.len(), b)
 }
 
 // The event and condition places of trigger i past its counts are zero.
@@ -27,23 +32,24 @@ fn are_bare(triggers: &[u8], n: u16) -> bool {
 }
 
 // The mark after OK: what is past the used rows is zero, and each unused place in them.
-fn rest_is_zero(counts: Counts, periodics: &[u8], triggers: &[u8]) -> bool {
-    let p = 16 * counts.periodics as usize;
-    let t = 13 * counts.triggers as usize;
-    let past = all_are(periodics, p, periodics.len(), 0) & all_are(triggers, t, triggers.len(), 0);
-    past & are_bare(triggers, counts.triggers)
+fn rest_is_zero(rules: &Rules) -> bool {
+    let n = rules.counts.triggers;
+    let periodics = all_past(rules.periodics, 16 * rules.counts.periodics as usize, 0);
+    let triggers = all_past(rules.triggers, 13 * n as usize, 0);
+    periodics & triggers & are_bare(rules.triggers, n)
 }
 
 // The mark after a refusal: both tables hold the fill.
-fn is_as_given(periodics: &[u8], triggers: &[u8], fill: u8) -> bool {
-    all_are(periodics, 0, periodics.len(), fill) & all_are(triggers, 0, triggers.len(), fill)
+fn is_as_given(rules: &Rules, fill: u8) -> bool {
+    all_past(rules.periodics, 0, fill) & all_past(rules.triggers, 0, fill)
 }
 
 // The mark.
-fn mark_of(reading: Result<Counts, Refusal>, periodics: &[u8], triggers: &[u8], fill: u8) -> bool {
-    match reading {
-        Ok(counts) => rest_is_zero(counts, periodics, triggers),
-        Err(refusal) => is_as_given(periodics, triggers, fill),
+fn mark_of(reading: Result<Counts, Refusal>, rules: &Rules, fill: u8) -> bool {
+    if reading.is_ok() {
+        rest_is_zero(rules)
+    } else {
+        is_as_given(rules, fill)
     }
 }
 
@@ -83,30 +89,29 @@ fn put_rows<const WIDTH: usize>(
 fn put_result(
     out: &mut [u8],
     reading: Result<Counts, Refusal>,
-    periodics: &[u8],
-    triggers: &[u8],
+    rules: &Rules,
     mark: bool,
 ) -> usize {
-    let counts = counts_of(reading);
+    let counts = rules.counts;
     let answer = answers::answer_of(reader::verdict_of(reading));
     let n = cases::put_answer(out, answer);
     let a = put(out, n, answer.column, 8);
     let b = put_counts(out, a, counts);
-    let c = put_rows(out, b, periodics.as_chunks::<16>().0, counts.periodics);
-    let d = put_rows(out, c, triggers.as_chunks::<13>().0, counts.triggers);
+    let c = put_rows(
+        out,
+        b,
+        rules.periodics.as_chunks::<16>().0,
+        counts.periodics,
+    );
+    let d = put_rows(out, c, rules.triggers.as_chunks::<13>().0, counts.triggers);
     put(out, d, mark as usize, 1)
 }
 
 // Prints the result of a reading.
-fn print_result(
-    reading: Result<Counts, Refusal>,
-    periodics: &[u8],
-    triggers: &[u8],
-    fill: u8,
-) -> Result<(), Stop> {
+fn print_result(reading: Result<Counts, Refusal>, rules: &Rules, fill: u8) -> Result<(), Stop> {
     let mut out = [0u8; 12288];
-    let mark = mark_of(reading, periodics, triggers, fill);
-    let n = put_result(&mut out, reading, periodics, triggers, mark);
+    let mark = mark_of(reading, rules, fill);
+    let n = put_result(&mut out, reading, rules, mark);
     cases::print(&mut out, n)
 }
 
@@ -125,7 +130,12 @@ fn try_sheet(
     fill: u8,
 ) -> Result<(), Stop> {
     let reading = reader::read_sheet(sheet, periodics, triggers);
-    print_result(reading, periodics, triggers, fill)
+    let rules = Rules {
+        counts: counts_of(reading),
+        periodics,
+        triggers,
+    };
+    print_result(reading, &rules, fill)
 }
 
 // Both tables, which hold the fill.

@@ -161,35 +161,26 @@ fn with_triggers(head: &[u8], rules: &Rules) -> Result<(), Stop> {
     with_waiting(head, rules, &mut waiting[0..w])
 }
 
-// The trigger table and its rows.
-fn with_periodics(head: &[u8], periodics: &[u8]) -> Result<(), Stop> {
-    let rows = four(head, 5);
-    let given = four(head, 83);
-    let t = 13 * rows as usize;
-    let mut triggers = [0u8; 6656];
-    if (t > triggers.len()) | (given > rows) {
+// Takes the rows of a table that are given, at most as many as it has, each a line of digits, into the room for it; the table.
+fn take_table<'r>(room: &'r mut [u8], rows: u16, given: u16, digits: u8) -> Result<&'r [u8], Stop> {
+    let n = rows as usize * (digits / 2) as usize;
+    if (n > room.len()) | (given > rows) {
         return Err(Stop::BadCase);
     }
-    take_rows(&mut triggers, given, 26)?;
-    let rules = Rules {
-        counts: counts_of(head),
-        periodics,
-        triggers: &triggers[0..t],
-    };
-    with_triggers(head, &rules)
+    take_rows(room, given, digits)?;
+    Ok(&room[0..n])
 }
 
-// The periodic table and its rows.
+// Both tables and their rows.
 fn with_head(head: &[u8]) -> Result<(), Stop> {
-    let rows = four(head, 0);
-    let given = four(head, 78);
-    let p = 16 * rows as usize;
     let mut periodics = [0u8; 4096];
-    if (p > periodics.len()) | (given > rows) {
-        return Err(Stop::BadCase);
-    }
-    take_rows(&mut periodics, given, 32)?;
-    with_periodics(head, &periodics[0..p])
+    let mut triggers = [0u8; 6656];
+    let rules = Rules {
+        periodics: take_table(&mut periodics, four(head, 0), four(head, 78), 32)?,
+        triggers: take_table(&mut triggers, four(head, 5), four(head, 83), 26)?,
+        counts: counts_of(head),
+    };
+    with_triggers(head, &rules)
 }
 
 // The cases, until the input ends or one is not in the form.

@@ -9,7 +9,7 @@ unfolding glyph_of
 returns-then-d-lt10 c =
     search (lt-ltb, le-ltb)
 
-pub returns : goal.returns
+pub returns-else-d-lt10 : goal.returns-else-d-lt10
 unfolding glyph_of
-returns c =
+returns-else-d-lt10 c =
     search (lt-ltb, le-ltb)

@@ -8,7 +8,7 @@ use Rattle.cases.proofs.is_as.Goals as goal
 pub returns-then-form-eq48 : goal.returns-then-form-eq48
 unfolding as_form
 returns-then-form-eq48 c =
-    rw (c.digit.ensures, eq-eqb _ _ c.if-form-eq48.true) refl
+    rw (c.is_some.ensures, c.digit.ensures, eq-eqb _ _ c.if-form-eq48.true) refl
 
 pub returns : goal.returns
 unfolding as_form

@@ -10,4 +10,4 @@ pub returns : goal.returns
 unfolding of_tape tape_size
 returns c =
     let ends : is_none c.args.s.end ≡ c.is_none.result = ap not c.is_none.ensures ∙ not-not c.is_none.result in
-    rw (c.count.ensures, c.size_of.ensures, c.byte_at.ensures, ends) refl
+    rw (c.count.ensures, c.size_of.ensures, ends) refl

@@ -1,20 +1,22 @@
--- `tape_tests::size_of` meets its contract: the tests of the code are those of the definition, in the same order.
+-- `tape_tests::size_of` meets its contract: each kind has its byte count, and no kind has 0.
 -- Assumes nothing.
-use borrow.Author.Tests.{eq-eqb, ne_eqb}
+use Rattle.std.specs.Prelude.{Some}
+use mathlib.Core.Path.{refl, sym, ap, ◌∙◌}
+use Rattle.tape_frames.specs.Laws.Kinds.{asks, ends, asks_said, ends_said}
 use Rattle.tape_tests.specs.Tests.{tape_size}
 use Rattle.tape_tests.proofs.size_of.Goals as goal
 
-pub returns-then-k-eq-ASK : goal.returns-then-k-eq-ASK
-unfolding tape_size
-returns-then-k-eq-ASK c =
-    search (eq-eqb, ne_eqb)
+pub returns-in-Some-Ask : goal.returns-in-Some-Ask
+unfolding tape_size asks
+returns-in-Some-Ask c =
+    rw (sym (asks_said _) ∙ ap asks (sym c.kind_of.ensures ∙ c.in-Some-Ask.is ∙ ap Some c.in-Some-Ask.field-0-is)) refl
 
-pub returns-then-k-eq-TAPE_END : goal.returns-then-k-eq-TAPE_END
-unfolding tape_size
-returns-then-k-eq-TAPE_END c =
-    search (eq-eqb, ne_eqb)
+pub returns-in-Some-End : goal.returns-in-Some-End
+unfolding tape_size asks ends
+returns-in-Some-End c =
+    rw (sym (asks_said _) ∙ ap asks (sym c.kind_of.ensures ∙ c.in-Some-End.is ∙ ap Some c.in-Some-End.field-0-is), sym (ends_said _) ∙ ap ends (sym c.kind_of.ensures ∙ c.in-Some-End.is ∙ ap Some c.in-Some-End.field-0-is)) refl
 
-pub returns : goal.returns
-unfolding tape_size
-returns c =
-    search (eq-eqb, ne_eqb)
+pub returns-in-None : goal.returns-in-None
+unfolding tape_size asks ends
+returns-in-None c =
+    rw (sym (asks_said _) ∙ ap asks (sym c.kind_of.ensures ∙ c.in-None.is), sym (ends_said _) ∙ ap ends (sym c.kind_of.ensures ∙ c.in-None.is)) refl
