@@ -170,12 +170,13 @@ FNR == 1 {
     sub(/\/src\/.*/, "/src", file)
     sub(/\.antt$/, "", file)
     file = short(file)
-    if (FILENAME ~ /\.antt$/ && file in path_at && FILENAME !~ /\/Laws\.antt$/) amiss(FILENAME ": " path_at[file] " has the same name, " file)
+    if (FILENAME ~ /\.antt$/ && file in path_at) twice[FILENAME] = path_at[file]
     if (FILENAME ~ /\.antt$/) path_at[file] = FILENAME
     place = key = ""
     deep = 0
     if (FILENAME ~ /^crates\// && !(file in is_file)) { files[++file_count] = file; is_file[file] = 1 }
 }
+FILENAME ~ /\.antt$/ && !/^(--.*|(pub )?mod [A-Za-z]+)?$/ { says_more[FILENAME] = 1 }
 FILENAME ~ /\.antt$/ { take_spec($0) }
 FILENAME ~ /\.rt$/ { take_code($0) }
 FILENAME ~ /\.md$/ { take_stored($0); take_theorems($0) }
@@ -531,6 +532,7 @@ BEGIN {
 }
 
 END {
+    for (f in twice) if (f in says_more || twice[f] in says_more) amiss(f ": " twice[f] " has the same name, and one of them says more than which files it has")
     for (k in entry) if (!(k in kind_of)) amiss("there is no " name_of(k) " in " file_of(k))
     for (i = 1; i <= key_count; i++) if (is_entry(keys[i]) || is_demand(keys[i])) reach("to read", keys[i])
     for (i = 1; i <= key_count; i++) if (is_contract(keys[i])) reach("contracts", keys[i])

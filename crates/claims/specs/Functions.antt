@@ -683,10 +683,10 @@ day_print_day = day-print.day_exact
 -- prints::put_line asks that the line fits: printed_frames::refusal_line, writer::put, day_print::run.
 -- keys::chains asks for at most 256 triggers: solver::by_keys.
 -- keys::next asks for a key below 257: solver::by_keys.
--- turns::settle asks for a key that is not 0, and chained triggers: solver::by_keys. (That the events are 128 numbers, their type says.)
+-- turns::settle asks for an events buffer of 128 numbers, a key that is not 0, and chained triggers: solver::by_keys.
 -- requests::put asks for a place below 32: entry::flatten, tape_batches::take_batch.
 -- line_readers::walk asks for at most so many bytes that its reader may read as many lines more: reader::read_within and tape::read_tape, once LENGTH was tested.
--- sheet_acts::act asks for room for the frame's row: reader::SheetReader::take, once the line's tests passed. (That the tables have their lengths, their type says.)
+-- sheet_acts::act asks for room for the frame's row and for tables of their lengths: reader::SheetReader::take, once the line's tests passed.
 -- instant::act asks for an instant that is not above the last: step::step_within, once LAST was tested.
 -- tape::read_tape asks for at most 65,536 bytes, and as many lines before them: day_input::open_tape, once LENGTH was tested.
 -- day_input::open asks for tables of zeros: day_print::print_day.

@@ -5,6 +5,8 @@ ghost use Rattle.std.specs.Prelude.{◌≡◌, ◌%◌, get_or, length};
 ghost use Rattle.tables.specs.Layout.{two, four};
 ghost use Rattle.frames.specs.Frame.{value, bytes_of, checked, sum};
 
+use widths::pair;
+
 // A letter stands for its character less this.
 pub const TEN_BELOW_A: u8 = b'A' - 10;
 
@@ -64,7 +66,7 @@ pub fn two_at(line: &[u8], i: u8) -> u32
     ensures { result ≡ two (bytes_of line.now) i }
 {
     let at = usize::from(i);
-    u32::from(u16::from_be_bytes([byte_at(line, at), byte_at(line, at + 1)]))
+    pair(byte_at(line, at), byte_at(line, at + 1))
 }
 
 // The number of four bytes at i, high byte first.

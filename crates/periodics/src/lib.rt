@@ -6,7 +6,7 @@ ghost use Rattle.tables.specs.Layout.{two, four, periodic_at};
 ghost use Rattle.periodics.specs.Rows.{periodic_of};
 
 use tables::{PERIODIC_BYTES, byte};
-use widths::row_index;
+use widths::{pair, row_index};
 
 // A periodic row, field by field.
 #[derive(Clone, Copy, PartialEq, Eq, Debug)]
@@ -23,9 +23,9 @@ pub struct PeriodicRow {
 // The number of two bytes at i, high byte first.
 fn two_bytes(table: &[u8], i: usize) -> u32
     requires { i < 1048640 }
-    ensures { result ≡ two table.now i }
+    ensures { (result ≡ two table.now i) × (result < 65536) }
 {
-    u32::from(u16::from_be_bytes([byte(table, i), byte(table, i + 1)]))
+    pair(byte(table, i), byte(table, i + 1))
 }
 
 // The number of four bytes at i, high byte first.

@@ -83,8 +83,8 @@ fn put_trigger(line: &[u8], k: u8, n: u16, table: &mut [u8; TRIGGER_TABLE])
     }
 }
 
-// What a frame that passed does: what was read so far goes on, and a row joins its table. (For the reader alone, which has shown that the frame passed, so that there is room.)
-pub fn act(
+// What a frame that passed does: what was read so far goes on, and a row joins its table.
+fn acted(
     line: &[u8],
     s: Seen,
     periodics: &mut [u8; PERIODIC_TABLE],
@@ -100,4 +100,16 @@ pub fn act(
     put_periodic(line, k, p, periodics);
     put_trigger(line, k, t, triggers);
     seen_after(k, byte_at(line, 2), s)
+}
+
+// The same on lent tables. (For the reader alone, which has shown that they have their lengths and that the frame passed, so that there is room.)
+pub fn act(line: &[u8], s: Seen, periodics: &mut [u8], triggers: &mut [u8]) -> Seen
+    requires { ((s.line < 16384) × (room_for (kind (bytes_of line.now)) s.counts.periodics s.counts.triggers ≡ true))
+        × ((length periodics.old ≡ PERIODIC_TABLE) × (length triggers.old ≡ TRIGGER_TABLE)) }
+    ensures { progress result periodics.new triggers.new
+        ≡ after (progress s periodics.old triggers.old) (bytes_of line.now) }
+{
+    let per = periodics.as_mut_array().unwrap();
+    let trg = triggers.as_mut_array().unwrap();
+    acted(line, s, per, trg)
 }

@@ -1,7 +1,7 @@
 // The lines of a text: where each ends, at its 0A or with the text; and FRAME, whether a line is one or more pairs of upper-case hexadecimal digits, and its column.
 #![tactic(auto)]
 
-ghost use Rattle.std.specs.Prelude.{◌≡◌, ◌+◌, option_copied, drop};
+ghost use Rattle.std.specs.Prelude.{◌≡◌, true, ◌+◌, ◌≤◌, length, option_copied, drop};
 ghost use Rattle.text.specs.Framed.{is_digit, framed, all_digits, frame_column};
 ghost use Rattle.text.specs.Lines.{lines, first_ended, span};
 
@@ -10,8 +10,32 @@ use memchr::memchr;
 // The byte that ends a line.
 pub const LINE_END: u8 = 0x0a;
 
-// Where the line that starts at `at` ends: its 0A, or the end of the text.
-pub fn line_end(text: &[u8], at: usize) -> usize
+// None of the eight characters from i on is a 0A. (All eight are asked, so that the compiler takes them at once.)
+fn no_end(text: &[u8], i: usize) -> bool
+    requires { i + 8 ≤ length text.now }
+    ensures { result ≡ true → span (drop i text.now) ≡ 8 + span (drop (i + 8) text.now) }
+{
+    let mut none = true;
+    for k in 0..8 {
+        none = none & (text[i + k] != LINE_END);
+    }
+    none
+}
+
+// Where the line that starts at `at` ends, character by character.
+fn end_by_one(text: &[u8], at: usize) -> usize
+    ensures { result ≡ at + span (drop at text.now) }
+{
+    for i in at..text.len() {
+        if text[i] == LINE_END {
+            return i;
+        }
+    }
+    at.max(text.len())
+}
+
+// The same by the library's search.
+fn far_end(text: &[u8], at: usize) -> usize
     ensures { result ≡ at + span (drop at text.now) }
 {
     match text.get(at..) {
@@ -20,13 +44,34 @@ pub fn line_end(text: &[u8], at: usize) -> usize
     }
 }
 
+// Where the line that starts at `at` ends: its 0A, or the end of the text. Most ends are near: eights of characters are passed over first, four at most, and the library is asked after them.
+pub fn line_end(text: &[u8], at: usize) -> usize
+    ensures { result ≡ at + span (drop at text.now) }
+{
+    if text.len() < 8 {
+        return end_by_one(text, at);
+    }
+    let last = text.len() - 8;
+    let mut i: usize = at;
+    for _ in 0..4 {
+        if i > last || !no_end(text, i) {
+            return end_by_one(text, i);
+        }
+        i += 8;
+    }
+    far_end(text, i)
+}
+
 // The line that starts at `at`, without its 0A; none where the text ends before a 0A.
 pub fn line_at(text: &[u8], at: usize) -> Option<&[u8]>
     ensures { option_copied result ≡ first_ended (lines (drop at text.now)) }
 {
-    let rest = text.get(at..)?;
-    let size = memchr(LINE_END, rest)?;
-    Some(&rest[..size])
+    let to = line_end(text, at);
+    if to < text.len() {
+        Some(&text[at..to])
+    } else {
+        None
+    }
 }
 
 // An upper-case hexadecimal digit.

@@ -36,6 +36,15 @@ fn put_lines(out: &mut [u8], at: usize, text: &[u8]) -> usize {
 
 // ---- the result
 
+// The bytes all hold the fill. (Each is asked, so that the compiler takes many at once.)
+fn all_fill(bytes: &[u8], fill: u8) -> bool {
+    let mut all = true;
+    for b in bytes {
+        all = all & (*b == fill);
+    }
+    all
+}
+
 // The line of a writing; where it ends. Of a refusal no byte is written. The mark says that every byte of the buffer past what is written holds the
 // fill: after a refusal that is the whole buffer.
 fn put_result(out: &mut [u8], sent: Result<usize, Refusal>, buffer: &[u8], fill: u8) -> usize {
@@ -45,7 +54,7 @@ fn put_result(out: &mut [u8], sent: Result<usize, Refusal>, buffer: &[u8], fill:
     let b = put(out, a, n, 4);
     let c = put(out, b, text.split_inclusive(ends_line).count(), 4);
     let d = put_lines(out, c, text);
-    put(out, d, rest.iter().all(|b| *b == fill) as usize, 1)
+    put(out, d, all_fill(rest, fill) as usize, 1)
 }
 
 // Prints the result of a writing. There is room for a buffer that is written full, and for the numbers around its lines.

@@ -1,7 +1,8 @@
 // The turns of the triggers of one key: where a body is met the head joins the events, sweep after sweep, until nothing is added.
 #![tactic(auto)]
 
-ghost use Rattle.std.specs.Prelude.{◌≡◌, true, ℕ};
+ghost use Rattle.std.specs.Prelude.{◌≡◌, true, ℕ, length};
+ghost use Rattle.theory.specs.Numbers.{EVENTS};
 ghost use Rattle.theory.specs.Solving.{Turn};
 ghost use Rattle.tables.specs.Buffers.{events_of};
 ghost use Rattle.keys.specs.Keys.{Chained, Linked};
@@ -69,12 +70,23 @@ fn sweep(
     changed
 }
 
-// Sweeps over the triggers of key k until one adds nothing. (For the solver alone, which has shown that k is a key and not 0, and that the triggers are chained.)
-pub fn settle(events: &mut [u16; EVENTS_NUMBERS], triggers: &[u8], chains: &[u16], n: u16, k: u16)
+// Sweeps over the triggers of key k until one adds nothing.
+fn sweeps(events: &mut [u16; EVENTS_NUMBERS], triggers: &[u8], chains: &[u16], n: u16, k: u16)
     requires { Keyed k × Linked n chains.now }
     ensures { (key : ℕ → ℕ)
         → Chained key n 0 chains.now
         → SettledAt triggers.now n key k events.old events.new }
 {
     while sweep(events, triggers, chains, n, k) {}
+}
+
+// The same on a lent buffer. (For the solver alone, which has shown that the events are a buffer of 128 numbers, that k is a key and not 0, and that the triggers are chained.)
+pub fn settle(events: &mut [u16], triggers: &[u8], chains: &[u16], n: u16, k: u16)
+    requires { (length events.old ≡ EVENTS) × Keyed k × Linked n chains.now }
+    ensures { (key : ℕ → ℕ)
+        → Chained key n 0 chains.now
+        → SettledAt triggers.now n key k events.old events.new }
+{
+    let whole = events.as_mut_array().unwrap();
+    sweeps(whole, triggers, chains, n, k);
 }

@@ -1,17 +1,13 @@
--- `text::line_at` meets its contract: the characters before the first 0A are the first line.
+-- `text::line_at` meets its contract: where the line ends before the text does, its characters are the first line.
 -- Assumes nothing.
-use Rattle.std.proofs.Common.{◌≡◌, List, ℕ, drop, ap, ◌∙◌}
-use Rattle.std.specs.Option.{option_copied}
-use Rattle.text.specs.Lines.{lines, first_ended}
-use Rattle.text.proofs.Found.{first_found, first_missed, rest_all}
+use Rattle.std.proofs.Common.{drop, sym, ap, length-drop, arith}
+use Rattle.text.specs.Lines.{first_ended}
+use Rattle.text.specs.Laws.Lines.{line_here, first_none}
 use Rattle.text.proofs.line_at.Goals as goal
 
-pub returns-in_err-size : goal.returns-in_err-size
-returns-in_err-size c =
-    let from : c.in_ok-rest.rest.now ≡ drop c.args.at c.args.text.now = c.in_ok-rest.ensures.lookup.0.2 ∙ rest_all c.args.text.now c.args.at in
-    ap option_copied c.from_residual-in_err-size.ensures ∙ first_missed c.in_ok-rest.rest.now c.in_err-size.ensures ∙ ap (λ (l : List ℕ). first_ended (lines l)) from
+pub returns-then-to-text : goal.returns-then-to-text
+returns-then-to-text c = sym (ap first_ended (line_here c.args.text.now c.args.at c.line_end-to.result c.line_end-to.ensures c.if-to-text.true))
 
-pub returns : goal.returns
-returns c =
-    let from : c.in_ok-rest.rest.now ≡ drop c.args.at c.args.text.now = c.in_ok-rest.ensures.lookup.0.2 ∙ rest_all c.args.text.now c.args.at in
-    first_found c.in_ok-rest.rest.now c.in_ok-size.size c.in_ok-size.ensures ∙ ap (λ (l : List ℕ). first_ended (lines l)) from
+pub returns-else-to-text : goal.returns-else-to-text
+returns-else-to-text c =
+    sym (first_none (drop c.args.at c.args.text.now) (omega (arith, length-drop c.args.at c.args.text.now, c.line_end-to.ensures, c.if-to-text.false)))

@@ -1,6 +1,7 @@
 -- `reader::SheetReader::take` meets its contract: the verdict decides, and what passed had room.
 -- Assumes nothing.
 use mathlib.Core.Path.{sym, ap, ◌∙◌}
+use Rattle.std.proofs.Common.{rules}
 use Rattle.sheet_tests.specs.Laws.{passes}
 use Rattle.answers.specs.Answers.{Verdict}
 use Rattle.answers.proofs.Laws.{handed_on}
@@ -11,7 +12,7 @@ use Rattle.reader.proofs.SheetReaderLineReader.take.Goals as goal
 
 pub act-self-requires : goal.act-self-requires
 act-self-requires c =
-    (c.requires, (passes _ _ _ (sym c.line_judged.ensures ∙ c.in_ok-line_judged.was)).room)
+    ((c.requires, (passes _ _ _ (sym c.line_judged.ensures ∙ c.in_ok-line_judged.was)).room), (search rules, search rules))
 
 pub returns-clause-taken : goal.returns-clause-taken
 unfolding by_verdict line_step

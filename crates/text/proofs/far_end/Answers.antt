@@ -1,9 +1,9 @@
--- `text::line_end` meets its contract: the first 0A is as far on as the line is long.
+-- `text::far_end` meets its contract: the first 0A is as far on as the line is long.
 -- Assumes nothing.
 use Rattle.std.proofs.Common.{◌≡◌, ℕ, ◌+◌, drop, ap, ◌∙◌}
 use Rattle.text.specs.Lines.{span}
 use Rattle.text.proofs.Found.{span_found, rest_all}
-use Rattle.text.proofs.line_end.Goals as goal
+use Rattle.text.proofs.far_end.Goals as goal
 
 pub returns-in-Some : goal.returns-in-Some
 returns-in-Some c =

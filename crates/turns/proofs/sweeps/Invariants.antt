@@ -1,11 +1,11 @@
--- `turns::settle` meets its contract. The loop's invariant: the sweeps so far keep the solver's invariant. It ends, since a sweep that is not the last has added a member.
+-- `turns::sweeps` meets its contract. The loop's invariant: the sweeps so far keep the solver's invariant. It ends, since a sweep that is not the last has added a member.
 -- Assumes nothing.
 use Prim.Native.Nat.{ℕ, ◌-◌}
 use Rattle.theory.specs.Solving.{MEMBERS, size_of, Keeps}
 use Rattle.tables.specs.Layout.{triggers_of}
 use Rattle.tables.specs.Buffers.{events_of}
 use Rattle.keys.specs.Keys.{Chained}
-use Rattle.turns.proofs.settle.Given as goal
+use Rattle.turns.proofs.sweeps.Given as goal
 
 abbrev pub invariant-loop : goal.invariant-loop
 invariant-loop l =
