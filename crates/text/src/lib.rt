@@ -44,17 +44,18 @@ fn far_end(text: &[u8], at: usize) -> usize
     }
 }
 
-// Where the line that starts at `at` ends: its 0A, or the end of the text. Most ends are near: eights of characters are passed over first, four at most, and the library is asked after them.
+// Where the line that starts at `at` ends: its 0A, or the end of the text. Most ends are near: eights of characters are passed over first, five at most, and the library is asked after them.
+// Kept: `while`, for `for` over a range, over one of eights by `step_by`, or so many times, took longer on short lines (docs/LOOK-BACK.md, d1).
 pub fn line_end(text: &[u8], at: usize) -> usize
     ensures { result ≡ at + span (drop at text.now) }
 {
     if text.len() < 8 {
         return end_by_one(text, at);
     }
-    let last = text.len() - 8;
+    let last = (text.len() - 8).min(at.saturating_add(32));
     let mut i: usize = at;
-    for _ in 0..4 {
-        if i > last || !no_end(text, i) {
+    while i <= last {
+        if !no_end(text, i) {
             return end_by_one(text, i);
         }
         i += 8;
