@@ -170,7 +170,10 @@ FNR == 1 {
     sub(/\/src\/.*/, "/src", file)
     sub(/\.antt$/, "", file)
     file = short(file)
-    if (FILENAME ~ /\.antt$/ && file in path_at) twice[FILENAME] = path_at[file]
+    if (FILENAME ~ /\.antt$/ && file in path_at) {
+        if (FILENAME ~ /\/Laws\.antt$/) twice[FILENAME] = path_at[file]
+        else amiss(FILENAME ": " path_at[file] " has the same name, " file)
+    }
     if (FILENAME ~ /\.antt$/) path_at[file] = FILENAME
     place = key = ""
     deep = 0
